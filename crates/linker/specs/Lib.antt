@@ -1,0 +1,2 @@
+-- Linking: laying objects one behind the other, finding what each wants, and fitting their code.
+pub mod Linking

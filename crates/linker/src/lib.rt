@@ -1,0 +1,1 @@
+// Linking objects: the definitions stand in specs/.

@@ -1,0 +1,1 @@
+// Units and objects as rows of words: the definitions stand in specs/.
