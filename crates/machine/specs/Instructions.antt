@@ -40,14 +40,17 @@ ending (suc zero) = 1
 ending (suc (suc zero)) = 2
 ending (suc (suc (suc zero))) = 3
 ending (suc (suc (suc (suc n)))) = 4
+
 -- the two topmost words become one; a number that is no operation's is wild
 abbrev pub operate : Machine → Option Op → Machine
 operate m None = halt m 4
 operate m (Some o) = go-on m (m .sp - 1) (set (m .memory) (m .sp - 2) (apply o (at m (m .sp - 2)) (top m)))
+
 -- pops v, and goes to n if it is 0
 abbrev pub branch : Machine → ℕ → ℕ → Machine
 branch m zero n = move m n (m .fp) (m .sp - 1) (m .memory)
 branch m (suc v) n = go-on m (m .sp - 1) (m .memory)
+
 -- takes one of the calls left
 abbrev pub count-call : Machine → ℕ → Machine
 count-call m zero = halt m 2
@@ -93,15 +96,19 @@ act Count n m = count-call m (m .left)
 abbrev pub act-at : Machine → Option Opcode → ℕ → Machine
 act-at m None n = halt m 4
 act-at m (Some i) n = act i n m
+
 abbrev pub decode : Option ℕ → Option Opcode
 decode None = None
 decode (Some w) = nth opcodes w
+
 -- a machine that has halted stays as it is
 abbrev pub unless-halted : ℕ → Machine → Machine → Machine
 unless-halted zero m m′ = m′
 unless-halted (suc h) m m′ = m
+
 abbrev pub step : List ℕ → Machine → Machine
 step code m = unless-halted (m .halted) m (act-at m (decode (nth code (m .pc))) (getD code (m .pc + 1) 0))
+
 abbrev pub steps : ℕ → List ℕ → Machine → Machine
 steps zero code m = m
 steps (suc k) code m = steps k code (step code m)

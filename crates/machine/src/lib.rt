@@ -1,4 +1,3 @@
-
 // How a run stands: so many words put out.
 #[derive(Clone, Copy, PartialEq, Eq, Debug)]
 pub enum Ran {
@@ -10,4 +9,3 @@ pub enum Ran {
     OutFull,
     Small,
 }
-

@@ -24,6 +24,7 @@ abbrev mutual
   formed u k (out e) = formed u k e
   formed u k next = true
   formed u k (call c es) = takes (arity u c) (count es) && formed-args u k es
+
   pub formed-args : SourceUnit → ℕ → Exprs → Bool
   formed-args u k nil = true
   formed-args u k (cons e es) = formed u k e && formed-args u k es
@@ -45,6 +46,7 @@ abbrev mutual
   depth (out e) = 1 + depth e
   depth next = 1
   depth (call c es) = 1 + depths es
+
   pub depths : Exprs → ℕ
   depths nil = 0
   depths (cons e es) = max (depth e) (depths es)

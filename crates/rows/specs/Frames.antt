@@ -15,6 +15,7 @@ abbrev mutual
   height (out e) = height e
   height next = 1
   height (call c es) = max 1 (heights es)
+
   pub heights : Exprs → ℕ
   heights nil = 0
   heights (cons e es) = max (height e) (1 + heights es)

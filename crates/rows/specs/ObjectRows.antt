@@ -11,11 +11,14 @@ use Rattle.rows.specs.Objects.{Fit, Offer, Object}
 abbrev pub rowOffers : List Offer → List ℕ
 rowOffers [] = []
 rowOffers (o ∷ os) = o .proc ∷ o .args ∷ o .at ∷ rowOffers os
+
 abbrev pub rowFits : List Fit → List ℕ
 rowFits [] = []
 rowFits (f ∷ fs) = f .at ∷ f .kind ∷ f .want ∷ rowFits fs
+
 abbrev pub rowObject : Object → List ℕ
 rowObject o = o .name ∷ o .words ∷ length (o .wants) ∷ length (o .offers) ∷ length (o .code) ∷ length (o .fits) ∷ (rowWants (o .wants) ++ (rowOffers (o .offers) ++ (o .code ++ rowFits (o .fits))))
+
 abbrev pub rowObjects : List Object → List ℕ
 rowObjects [] = []
 rowObjects (o ∷ os) = rowObject o ++ rowObjects os
@@ -24,12 +27,15 @@ rowObjects (o ∷ os) = rowObject o ++ rowObjects os
 abbrev pub offers-inside : ℕ → List Offer → Bool
 offers-inside n [] = true
 offers-inside n (o ∷ os) = ltb (o .at) n && offers-inside n os
+
 -- fits are of places in a code of n words, of the kinds 0 to 2, and of kind 2 only where one of k wants is named
 abbrev pub fits-inside : ℕ → ℕ → List Fit → Bool
 fits-inside n k [] = true
 fits-inside n k (f ∷ fs) = ltb (f .at) n && (ltb (f .kind) 3 && ((ltb (f .kind) 2 || ltb (f .want) k) && fits-inside n k fs))
+
 abbrev pub sound : Object → Bool
 sound o = leb (o .words) 4096 && (offers-inside (length (o .code)) (o .offers) && fits-inside (length (o .code)) (length (o .wants)) (o .fits))
+
 abbrev pub all-sound : List Object → Bool
 all-sound [] = true
 all-sound (o ∷ os) = sound o && all-sound os

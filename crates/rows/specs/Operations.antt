@@ -15,6 +15,7 @@ pub data Op : Type 0 where
 -- an operation's number is its place in this list
 abbrev pub operations : List Op
 operations = Add ∷ Sub ∷ Mul ∷ Div ∷ Less ∷ Same ∷ []
+
 abbrev pub number : Op → ℕ
 number Add = 0
 number Sub = 1
@@ -26,6 +27,7 @@ number Same = 5
 abbrev pub bit : Bool → ℕ
 bit true = 1
 bit false = 0
+
 -- anything divided by 0 is 0
 abbrev pub quotient : ℕ → ℕ → ℕ
 quotient x zero = 0

@@ -22,6 +22,7 @@ abbrev mutual
   rowExpr (out e) = 7 ∷ rowExpr e
   rowExpr next = 8 ∷ []
   rowExpr (call c es) = 9 ∷ c ∷ count es ∷ rowExprs es
+
   pub rowExprs : Exprs → List ℕ
   rowExprs nil = []
   rowExprs (cons e es) = rowExpr e ++ rowExprs es
@@ -29,18 +30,22 @@ abbrev mutual
 abbrev pub rowWants : List Want → List ℕ
 rowWants [] = []
 rowWants (w ∷ ws) = w .unit ∷ w .proc ∷ w .args ∷ rowWants ws
+
 abbrev pub rowProcs : List Proc → List ℕ
 rowProcs [] = []
 rowProcs (p ∷ ps) = p .args ∷ (rowExpr (p .body) ++ rowProcs ps)
+
 abbrev pub rowUnit : SourceUnit → List ℕ
 rowUnit u = u .name ∷ u .words ∷ length (u .wants) ∷ length (u .procs) ∷ length (u .offers) ∷ (rowWants (u .wants) ++ (rowProcs (u .procs) ++ u .offers))
 
 abbrev pub small-wants : List Want → Bool
 small-wants [] = true
 small-wants (w ∷ ws) = leb (w .args) 8 && small-wants ws
+
 abbrev pub small-procs : List Proc → Bool
 small-procs [] = true
 small-procs (p ∷ ps) = leb (p .args) 8 && (leb (depth (p .body)) 256 && small-procs ps)
+
 -- each is below n
 abbrev pub all-below : ℕ → List ℕ → Bool
 all-below n [] = true

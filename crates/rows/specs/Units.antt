@@ -29,6 +29,7 @@ mutual
     next : Expr
     -- calls a callee: below the number of wants it is that want, else the unit's own procedure, counted behind them
     call : ℕ → Exprs → Expr
+
   pub data Exprs : Type 0 where
     nil : Exprs
     cons : Expr → Exprs → Exprs
@@ -58,5 +59,5 @@ pub record SourceUnit : Type 0 where
 -- how many arguments a callee takes, where it is there
 abbrev pub arity : SourceUnit → ℕ → Option ℕ
 arity u c = cond (ltb c (length (u .wants)))
-  (mapped (λ w. w .args) (nth (u .wants) c))
-  (mapped (λ p. p .args) (nth (u .procs) (c - length (u .wants))))
+    (mapped (λ w. w .args) (nth (u .wants) c))
+    (mapped (λ p. p .args) (nth (u .procs) (c - length (u .wants))))

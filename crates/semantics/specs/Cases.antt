@@ -22,18 +22,23 @@ use Rattle.semantics.specs.Whole.{Fit-together, Behaviour, done, without-calls
 -- unit 2 keeps a sum: its procedure 0 adds its argument to word 0 and gives the sum
 abbrev pub sums : SourceUnit
 sums = record { name = 2; words = 1; wants = []; procs = record { args = 1; body = keep 0 (op Add (word 0) (arg 0)) } ∷ []; offers = 0 ∷ [] }
+
 -- unit 1 asks for it twice, each time with the tape's next word, and puts out what it gives
 abbrev pub asks : SourceUnit
 asks = record { name = 1; words = 0; wants = record { unit = 2; proc = 0; args = 1 } ∷ []; procs = record { args = 0; body = then (out (call 0 (cons next nil))) (out (call 0 (cons next nil))) } ∷ []; offers = 0 ∷ [] }
+
 abbrev pub units : List SourceUnit
 units = asks ∷ sums ∷ []
 
 abbrev pub sums-object : Object
 sums-object = record { name = 2; words = 1; wants = []; offers = record { proc = 0; args = 1; at = 0 } ∷ []; code = 16 ∷ 0 ∷ 14 ∷ 7 ∷ 9 ∷ 1 ∷ 3 ∷ 0 ∷ 2 ∷ 0 ∷ 5 ∷ 0 ∷ 4 ∷ 0 ∷ 15 ∷ 7 ∷ 10 ∷ 1 ∷ []; fits = record { at = 7; kind = 1; want = 0 } ∷ record { at = 13; kind = 1; want = 0 } ∷ [] }
+
 abbrev pub asks-object : Object
 asks-object = record { name = 1; words = 0; wants = record { unit = 2; proc = 0; args = 1 } ∷ []; offers = record { proc = 0; args = 0; at = 0 } ∷ []; code = 16 ∷ 0 ∷ 14 ∷ 5 ∷ 9 ∷ 0 ∷ 12 ∷ 0 ∷ 8 ∷ 0 ∷ 11 ∷ 0 ∷ 13 ∷ 0 ∷ 12 ∷ 0 ∷ 8 ∷ 0 ∷ 11 ∷ 0 ∷ 15 ∷ 5 ∷ 10 ∷ 0 ∷ []; fits = record { at = 9; kind = 2; want = 0 } ∷ record { at = 17; kind = 2; want = 0 } ∷ [] }
+
 abbrev pub objects : List Object
 objects = asks-object ∷ sums-object ∷ []
+
 -- unit 1's code at 4, with the place of unit 2's procedure, 28, at both calls; unit 2's code as it is, since its words lie at 0
 abbrev pub image : List ℕ
 image = 8 ∷ 4 ∷ 0 ∷ 1 ∷ 16 ∷ 0 ∷ 14 ∷ 5 ∷ 9 ∷ 0 ∷ 12 ∷ 0 ∷ 8 ∷ 28 ∷ 11 ∷ 0 ∷ 13 ∷ 0 ∷ 12 ∷ 0 ∷ 8 ∷ 28 ∷ 11 ∷ 0 ∷ 15 ∷ 5 ∷ 10 ∷ 0 ∷ 16 ∷ 0 ∷ 14 ∷ 7 ∷ 9 ∷ 1 ∷ 3 ∷ 0 ∷ 2 ∷ 0 ∷ 5 ∷ 0 ∷ 4 ∷ 0 ∷ 15 ∷ 7 ∷ 10 ∷ 1 ∷ []
@@ -41,6 +46,7 @@ image = 8 ∷ 4 ∷ 0 ∷ 1 ∷ 16 ∷ 0 ∷ 14 ∷ 5 ∷ 9 ∷ 0 ∷ 12 ∷ 0 �
 -- the units, and the image on the machine, with a room and a number of calls, on the tape 5, 7
 abbrev pub units-do : ℕ → ℕ → Option Behaviour
 units-do room calls = behaviour (source units room (5 ∷ 7 ∷ []) calls)
+
 abbrev pub image-does : ℕ → ℕ → Option Behaviour
 image-does room calls = machine-behaviour (steps 40 image (begin (all-words objects) room (5 ∷ 7 ∷ []) calls))
 

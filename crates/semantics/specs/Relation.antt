@@ -9,23 +9,25 @@ use lib.Dec.{ltb, T}
 use Rattle.std.specs.declared.option.Option.{Option}
 use Rattle.std.specs.declared.option.Option.the-variants.{Some, None}
 use Rattle.std.specs.Finite.{nth}
-use Rattle.rows.specs.Units.{Want, Proc, SourceUnit}
+use Rattle.rows.specs.Units.{Want, SourceUnit}
 use Rattle.rows.specs.Objects.{Object}
 use Rattle.rows.specs.ObjectRows.{sound}
 use Rattle.machine.specs.Machine.{Machine, at}
 use Rattle.machine.specs.Instructions.{steps}
 use Rattle.linker.specs.Linking.{offered, fit-all}
 use Rattle.semantics.specs.Runs.{State, Result, value, no-room, no-calls, bad, eval, spend, enter}
-use Rattle.semantics.specs.Whole.{among, offers-proc}
+use Rattle.semantics.specs.Whole.{offers-proc}
 
 -- the units' words one unit after the other, as they lie at the front of memory
 abbrev pub flat : List (List ℕ) → List ℕ
 flat [] = []
 flat (w ∷ ws) = w ++ flat ws
+
 -- shape: how many words each unit has
 abbrev pub sizes : List (List ℕ) → List ℕ
 sizes [] = []
 sizes (w ∷ ws) = length w ∷ sizes ws
+
 abbrev pub total : List ℕ → ℕ
 total [] = 0
 total (n ∷ ns) = n + total ns
@@ -33,11 +35,12 @@ total (n ∷ ns) = n + total ns
 -- what calls of a unit's wants do: at most so many calls deep, of which want, with how much room, on which values
 abbrev pub Imports : Type 0
 Imports = ℕ → ℕ → ℕ → List ℕ → State → Result
+
 -- what procedure p of u does on its own, its wants doing x; u's words are the i-th of the state
 abbrev pub run-unit : ℕ → SourceUnit → ℕ → Imports → ℕ → ℕ → List ℕ → State → Result
 run-unit zero u i x p room vs s = no-calls s
 run-unit (suc d) u i x p room vs s =
-  spend (s .left) s (λ r. enter (nth (u .procs) p) room
+    spend (s .left) s (λ r. enter (nth (u .procs) p) room
     (λ q free. eval (λ c ws t. cond (ltb c (length (u .wants))) (x d c free ws t) (run-unit d u i x (c - length (u .wants)) free ws t)) i vs (q .body) r) r)
 
 -- a machine that still runs holds a program's state
@@ -85,6 +88,7 @@ pub record Returned (shape : List ℕ) (site : CallSite) (v : ℕ) (s : State) (
 -- the machine halts so, having put out these words
 abbrev pub Halts : List ℕ → ℕ → List ℕ → Machine → Type 0
 Halts code h outs m = (n : ℕ) × (steps n code m .halted ≡ h) × (steps n code m .outs ≡ outs)
+
 -- what comes of a machine in which a call has been entered, if the call's result is to be this; no call gains calls.
 -- The bad state promises nothing: units that fit together never come to it.
 abbrev pub Outcome : List ℕ → List ℕ → CallSite → ℕ → Machine → Result → Type 0
@@ -96,8 +100,8 @@ Outcome code shape site left m bad = Unit {0}
 -- calls of place a with k arguments do what f says, as long as fewer than d calls are left
 abbrev pub Simulates : List ℕ → List ℕ → ℕ → ℕ → ℕ → (ℕ → List ℕ → State → Result) → Type 0
 Simulates code shape d a k f =
-  (site : CallSite) (room : ℕ) (vs : List ℕ) (s : State) (m : Machine) → length vs ≡ k → s .left < d → Entered shape a site room vs s m →
-  Outcome code shape site (s .left) m (f room vs s)
+    (site : CallSite) (room : ℕ) (vs : List ℕ) (s : State) (m : Machine) → length vs ≡ k → s .left < d → Entered shape a site room vs s m →
+    Outcome code shape site (s .left) m (f room vs s)
 
 -- the object's code lies at c in the code, its words are the i-th of the shape, and ps are the places of its wants
 pub record Placed (u : SourceUnit) (o : Object) (code shape : List ℕ) (i c : ℕ) (ps : List ℕ) : Type 0 where
@@ -113,8 +117,7 @@ Wants-do u code shape d ps x = (e n : ℕ) (w : Want) → e ≤ d → nth (u .wa
 -- calls of what it offers do what the unit's procedures do
 abbrev pub Simulates-unit : SourceUnit → Object → Type 0
 Simulates-unit u o = (code shape : List ℕ) (i c : ℕ) (ps : List ℕ) (d : ℕ) (x : Imports) → Placed u o code shape i c ps → Wants-do u code shape d ps x →
-  (p : ℕ) (q : Proc) (a : ℕ) → T (among p (u .offers)) → nth (u .procs) p ≡ Some q → offered p (q .args) (o .offers) ≡ Some a →
-  Simulates code shape (suc d) (c + a) (q .args) (run-unit (suc d) u i x p)
+    (p k a : ℕ) → T (offers-proc u p k) → offered p k (o .offers) ≡ Some a → Simulates code shape (suc d) (c + a) k (run-unit (suc d) u i x p)
 
 pub record Object-of (u : SourceUnit) (o : Object) : Type 0 where
   -- others find it under the unit's name

@@ -19,18 +19,23 @@ pub record State : Type 0 where
   pub tape : List ℕ
   pub outs : List ℕ
   pub left : ℕ
+
 abbrev pub with-words : State → List (List ℕ) → State
 with-words s words = record { words = words; tape = s .tape; outs = s .outs; left = s .left }
+
 abbrev pub with-tape : State → List ℕ → State
 with-tape s tape = record { words = s .words; tape = tape; outs = s .outs; left = s .left }
+
 abbrev pub with-outs : State → List ℕ → State
 with-outs s outs = record { words = s .words; tape = s .tape; outs = outs; left = s .left }
+
 abbrev pub with-left : State → ℕ → State
 with-left s left = record { words = s .words; tape = s .tape; outs = s .outs; left = left }
 
 -- word i of unit u
 abbrev pub word-at : List (List ℕ) → ℕ → ℕ → ℕ
 word-at ws u i = getD (getD ws u []) i 0
+
 abbrev pub keep-at : List (List ℕ) → ℕ → ℕ → ℕ → List (List ℕ)
 keep-at ws u i v = set ws u (set (getD ws u []) i v)
 
@@ -40,24 +45,29 @@ pub data Result : Type 0 where
   no-room : State → Result
   no-calls : State → Result
   bad : Result
+
 -- what comes of a call's arguments
 pub data Results : Type 0 where
   values : List ℕ → State → Results
   stop : Result → Results
+
 -- goes on with a value; an end stays what it is
 abbrev pub on : Result → (ℕ → State → Result) → Result
 on (value v s) k = k v s
 on (no-room s) k = no-room s
 on (no-calls s) k = no-calls s
 on bad k = bad
+
 abbrev pub ons : Results → (List ℕ → State → Result) → Result
 ons (values vs s) k = k vs s
 ons (stop r) k = r
+
 abbrev pub first : Result → (ℕ → State → Results) → Results
 first (value v s) k = k v s
 first (no-room s) k = stop (no-room s)
 first (no-calls s) k = stop (no-calls s)
 first bad k = stop bad
+
 abbrev pub more : Results → (List ℕ → State → Results) → Results
 more (values vs s) k = k vs s
 more (stop r) k = stop r
@@ -80,6 +90,7 @@ abbrev mutual
   eval x u vs (out e) s = on (eval x u vs e s) (λ v t. value v (with-outs t (t .outs ++ (v ∷ []))))
   eval x u vs next s = value (getD (s .tape) 0 0) (with-tape s (drop 1 (s .tape)))
   eval x u vs (call c es) s = ons (evals x u vs es s) (λ ws t. x c ws t)
+
   pub evals : (ℕ → List ℕ → State → Result) → ℕ → List ℕ → Exprs → State → Results
   evals x u vs nil s = values [] s
   evals x u vs (cons e es) s = first (eval x u vs e s) (λ v t. more (evals x u vs es t) (λ ws r. values (v ∷ ws) r))
@@ -88,19 +99,23 @@ abbrev mutual
 abbrev pub position : ℕ → List SourceUnit → Option ℕ
 position n [] = None
 position n (u ∷ us) = cond (eqb n (u .name)) (Some 0) (mapped suc (position n us))
+
 -- a procedure of a program: the unit's number and the procedure's in it
 pub record Target : Type 0 where
   pub unit : ℕ
   pub proc : ℕ
+
 abbrev pub wanted : List SourceUnit → Want → Option Target
 wanted us w = do
   j ← position (w .unit) us
   Some (record { unit = j; proc = w .proc })
+
 -- callee c of unit number i: first its wants are counted, then its own procedures
 abbrev pub target : List SourceUnit → ℕ → ℕ → Option Target
 target us i c = do
   u ← nth us i
   cond (ltb c (length (u .wants))) (nth (u .wants) c >>= wanted us) (Some (record { unit = i; proc = c - length (u .wants) }))
+
 abbrev pub proc-at : List SourceUnit → Target → Option Proc
 proc-at us t = do
   u ← nth us (t .unit)
@@ -110,10 +125,12 @@ proc-at us t = do
 abbrev pub spend : ℕ → State → (State → Result) → Result
 spend zero s k = no-calls s
 spend (suc left) s k = k (with-left s left)
+
 -- takes the procedure's frame from the room; it is given back when the call returns, since only what the call does is passed what is left
 abbrev pub enter : Option Proc → ℕ → (Proc → ℕ → Result) → State → Result
 enter None room k s = bad
 enter (Some p) room k s = cond (ltb room (frame p)) (no-room s) (k p (room - frame p))
+
 abbrev pub through : Option Target → (Target → Result) → Result
 through None k = bad
 through (Some t) k = k t
@@ -122,12 +139,13 @@ through (Some t) k = k t
 abbrev pub run : ℕ → List SourceUnit → ℕ → Target → List ℕ → State → Result
 run zero us room t vs s = no-calls s
 run (suc d) us room t vs s =
-  spend (s .left) s (λ r. enter (proc-at us t) room
+    spend (s .left) s (λ r. enter (proc-at us t) room
     (λ p free. eval (λ c ws q. through (target us (t .unit) c) (λ n. run d us free n ws q)) (t .unit) vs (p .body) r) r)
 
 abbrev pub zeros : List SourceUnit → List (List ℕ)
 zeros [] = []
 zeros (u ∷ us) = replicate (u .words) 0 ∷ zeros us
+
 -- a program is a call of procedure 0 of the first unit, with this room, tape and number of calls; that call counts
 abbrev pub source : List SourceUnit → ℕ → List ℕ → ℕ → Result
 source us room tape calls = run (suc calls) us room (record { unit = 0; proc = 0 }) [] (record { words = zeros us; tape = tape; outs = []; left = calls })

@@ -4,5 +4,4 @@ ghost use Rattle.semantics.specs.Cases.{Worked-cases};
 // The table of worked cases holds of the definitions.
 pub fn worked_cases()
     ensures { λ _. ⌜ Worked-cases ⌝ }
-{
-}
+{}
