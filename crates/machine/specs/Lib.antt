@@ -1,4 +1,5 @@
--- The machine: its state, its instructions, and what a run of it promises.
+-- The machine: its state, its instructions, how the program holds it, and what a run of it promises.
 pub mod Machine
 pub mod Instructions
+pub mod Registers
 pub mod Says

@@ -3,6 +3,9 @@ use mathlib.Core.Bool.{Bool, true, false}
 use mathlib.Core.List.{List, [], _∷_}
 use Prim.Native.Nat.{ℕ, zero, suc, _+_, _-_, _*_, _/_, _%_, _^_}
 use lib.Dec.{eqb, ltb}
+use Rattle.std.specs.declared.option.Option.{Option}
+use Rattle.std.specs.Options.{mapped}
+use Rattle.std.specs.Finite.{nth}
 
 pub data Op : Type 0 where
   Add : Op
@@ -41,3 +44,7 @@ apply Mul x y = x * y % 2 ^ 32
 apply Div x y = quotient x y
 apply Less x y = bit (ltb x y)
 apply Same x y = bit (eqb x y)
+
+-- by the operation's number, where there is one
+abbrev pub operated : ℕ → ℕ → ℕ → Option ℕ
+operated n x y = mapped (λ o. apply o x y) (nth operations n)

@@ -1,1 +1,2 @@
-// Units and objects as rows of words: the definitions stand in specs/.
+// Units and objects as rows of words, and the operations on words that units have.
+pub mod operations;

@@ -1,0 +1,4 @@
+pub mod Steps
+mod Turns
+mod Ends
+mod Runs

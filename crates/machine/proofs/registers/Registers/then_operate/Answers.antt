@@ -1,0 +1,7 @@
+use mathlib.Core.Path.{refl}
+use native.Mathlib.Omega.{arith}
+use Rattle.machine.proofs.Turns.{one-on}
+use Rattle.machine.proofs.registers.Registers.then_operate.Needs as need
+
+pub returns-in-Some : need.returns-in-Some
+returns-in-Some c = one-on 5 (c .in-Some .n) (c .in-Running .is) (c .in-Some .ensures tt) (omega arith) (c .operate .ensures) (λ m. refl)
