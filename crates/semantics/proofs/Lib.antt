@@ -1,1 +1,4 @@
 mod Cases
+pub mod Continuations
+pub mod Lookups
+pub mod NotBad
