@@ -1,14 +1,14 @@
 -- Going on after a result: what holds on every way holds of the whole.
-use mathlib.Core.Path.{_≡_, refl, sym, ap, subst, fun-ext, _∙_}
+use mathlib.Core.Path.{_≡_, refl, ap, fun-ext, _∙_}
 use mathlib.Core.List.{List, _∷_}
 use Prim.Native.Nat.{ℕ, zero, suc, _-_, _<_, _≤_}
 use lib.Dec.{ltb}
 use Rattle.std.specs.declared.option.Option.{Option}
-use Rattle.std.specs.declared.option.Option.the-variants.{Some}
+use Rattle.std.specs.declared.option.Option.the-variants.{Some, None}
 use Rattle.std.proofs.shelf.Tests.{cond-both, ltb-true, ltb-false}
 use Rattle.rows.specs.Units.{Expr, Exprs, cons, Proc}
 use Rattle.rows.specs.Frames.{frame}
-use Rattle.semantics.specs.Runs.{State, with-left, Result, value, no-room, no-calls, bad, Results, values, stop, on, ons, first, more, choose, eval, evals, spend, enter}
+use Rattle.semantics.specs.Runs.{State, with-left, Result, value, no-room, no-calls, bad, Results, values, stop, on, ons, first, more, choose, eval, evals, Target, spend, enter, through}
 
 ons-first : (r : Result) (f : ℕ → State → Results) (k : List ℕ → State → Result) → ons (first r f) k ≡ on r (λ v t. ons (f v t) k)
 ons-first (value v s) f k = refl
@@ -32,13 +32,18 @@ pub choose-both : (P : Result → Type 0) (v : ℕ) (a b : Result) → P a → P
 choose-both P zero a b p q = q
 choose-both P (suc v) a b p q = p
 
-pub spend-both : (P : Result → Type 0) (n : ℕ) (s : State) (k : State → Result) → (n ≡ 0 → P (no-calls s)) → ((m : ℕ) → n ≡ suc m → P (k (with-left s m))) → P (spend n s k)
+pub spend-both : (P : Result → Type 0) (n : ℕ) (s : State) (k : State → Result) →
+    (n ≡ 0 → P (no-calls s)) → ((m : ℕ) → n ≡ suc m → P (k (with-left s m))) → P (spend n s k)
 spend-both P zero s k none some = none refl
 spend-both P (suc m) s k none some = some m refl
 
--- into a procedure that is there
-pub enter-both : (P : Result → Type 0) (o : Option Proc) (p : Proc) (room : ℕ) (k : Proc → ℕ → Result) (s : State) → o ≡ Some p →
-    (room < frame p → P (no-room s)) → (frame p ≤ room → P (k p (room - frame p))) → P (enter o room k s)
-enter-both P o p room k s e full fits =
-    subst (λ q. P (enter q room k s)) (sym e)
-    (cond-both (ltb room (frame p)) (no-room s) (k p (room - frame p)) P (λ h. full (ltb-true room (frame p) h)) (λ h. fits (ltb-false room (frame p) h)))
+pub enter-both : (P : Result → Type 0) (o : Option Proc) (room : ℕ) (k : Proc → ℕ → Result) (s : State) →
+    (o ≡ None → P bad) → ((p : Proc) → o ≡ Some p → room < frame p → P (no-room s)) → ((p : Proc) → o ≡ Some p → frame p ≤ room → P (k p (room - frame p))) →
+    P (enter o room k s)
+enter-both P None room k s missing full fits = missing refl
+enter-both P (Some p) room k s missing full fits =
+    cond-both (ltb room (frame p)) (no-room s) (k p (room - frame p)) P (λ h. full p refl (ltb-true room (frame p) h)) (λ h. fits p refl (ltb-false room (frame p) h))
+
+pub through-both : (P : Result → Type 0) (o : Option Target) (k : Target → Result) → (o ≡ None → P bad) → ((t : Target) → o ≡ Some t → P (k t)) → P (through o k)
+through-both P None k missing found = missing refl
+through-both P (Some t) k missing found = found t refl

@@ -2,3 +2,4 @@ mod Cases
 pub mod Continuations
 pub mod Lookups
 pub mod NotBad
+pub mod Grows

@@ -1,5 +1,5 @@
 -- Programs of units that fit together never come to the bad state.
-use mathlib.Core.Path.{_≡_, refl, sym, subst}
+use mathlib.Core.Path.{_≡_, refl, sym, subst, _∙_}
 use mathlib.Core.Bool.{Bool, true, false, cond, _&&_}
 use mathlib.Core.List.{List, [], _∷_}
 use Prim.Native.Nat.{ℕ, zero, suc, _-_}
@@ -8,6 +8,7 @@ use Rattle.std.specs.declared.option.Option.{Option}
 use Rattle.std.specs.declared.option.Option.the-variants.{Some, None}
 use Rattle.std.specs.Options.{mapped}
 use Rattle.std.specs.Finite.{nth}
+use Rattle.std.proofs.iter.runs.Lists.{none-some}
 use Rattle.rows.specs.Units.{Expr, num, arg, word, op, if, keep, then, out, next, call, Exprs, nil, cons, count, Proc, SourceUnit, arity}
 use Rattle.rows.specs.Formed.{takes, formed, formed-args}
 use Rattle.rows.specs.Frames.{frame}
@@ -63,22 +64,24 @@ module _ (w : SourceUnit) (n u : ℕ) (vs : List ℕ) (x : ℕ → List ℕ → 
         subst NotBad (sym (ons-cons x u vs e es s k))
         (on-not-bad (eval x u vs e s) _ (eval-not-bad e s (e-es .0)) (λ v r. evals-not-bad es r (e-es .1) (λ ws. k (v ∷ ws)) (λ ws. h (v ∷ ws))))
 
--- calls of a unit's callees, if calls of procedures that are there are not bad
-callee-not-bad : (us : List SourceUnit) (f : Target → List ℕ → State → Result) → ((t : Target) (p : Proc) → proc-at us t ≡ Some p → (vs : List ℕ) (s : State) → NotBad (f t vs s)) →
+-- calls of what a look-up finds, if calls of procedures that are there are not bad
+found-not-bad : (us : List SourceUnit) (f : Target → List ℕ → State → Result) →
+    ((t : Target) (p : Proc) → proc-at us t ≡ Some p → (vs : List ℕ) (s : State) → NotBad (f t vs s)) →
     (o : Option Target) (n : ℕ) → Callable us o n → (vs : List ℕ) (s : State) → NotBad (through o (λ t. f t vs s))
-callee-not-bad us f h o n c vs s = subst (λ q. NotBad (through q (λ t. f t vs s))) (sym (c .is)) (h (c .target) (c .proc) (c .there) vs s)
+found-not-bad us f h o n c vs s = subst (λ q. NotBad (through q (λ t. f t vs s))) (sym (c .is)) (h (c .target) (c .proc) (c .there) vs s)
 
 -- a call of a procedure that is there, at any depth, with any room, values and state
 pub run-not-bad : (us : List SourceUnit) → T (all-met us us) → T (all-formed us) →
     (d room : ℕ) (t : Target) (p : Proc) → proc-at us t ≡ Some p → (vs : List ℕ) (s : State) → NotBad (run d us room t vs s)
 run-not-bad us met bodies zero room t p e vs s = tt
 run-not-bad us met bodies (suc d) room t p e vs s =
-    let u = both-found (nth us (t .unit)) (λ v. nth (v .procs) (t .proc)) p e in
     spend-both NotBad (s .left) s _ (λ _. tt)
-    (λ m _. enter-both NotBad (proc-at us t) p room _ _ e (λ _. tt)
-    (λ _. eval-not-bad (u .0) (p .args) (t .unit) vs _
-    (λ c n h. callee-not-bad us (run d us (room - frame p)) (run-not-bad us met bodies d (room - frame p)) (target us (t .unit) c) n (callee-callable us (t .unit) c n (u .0) met (u .1) h))
-    (p .body) _ (body-formed us (t .unit) (t .proc) (u .0) p bodies (u .1) (u .2))))
+    (λ m _. enter-both NotBad (proc-at us t) room _ _ (λ none. none-some p (sym none ∙ e)) (λ _ _ _. tt)
+    (λ q is _. let u = both-found (nth us (t .unit)) (λ v. nth (v .procs) (t .proc)) q is in
+    eval-not-bad (u .0) (q .args) (t .unit) vs _
+    (λ c n h. found-not-bad us (run d us (room - frame q)) (run-not-bad us met bodies d (room - frame q))
+    (target us (t .unit) c) n (callee-callable us (t .unit) c n (u .0) met (u .1) h))
+    (q .body) _ (body-formed us (t .unit) (t .proc) (u .0) q bodies (u .1) (u .2))))
 
 has-behaviour : (r : Result) → NotBad r → (b : Behaviour) × (behaviour r ≡ Some b)
 has-behaviour (value v s) h = (done (s .outs), refl)
@@ -94,4 +97,5 @@ start-callable (u ∷ us) h = own-callable (u ∷ us) 0 0 0 u refl (and-both (am
 pub ends : Ends
 ends us room calls tape fit =
     has-behaviour (source us room tape calls)
-    (callee-not-bad us (run (suc calls) us room) (run-not-bad us (fit .met) (fit .formed) (suc calls) room) (Some (record { unit = 0; proc = 0 })) 0 (start-callable us (fit .starts)) [] _)
+    (found-not-bad us (run (suc calls) us room) (run-not-bad us (fit .met) (fit .formed) (suc calls) room)
+    (Some (record { unit = 0; proc = 0 })) 0 (start-callable us (fit .starts)) [] _)

@@ -4,3 +4,4 @@ pub mod Whole
 pub mod Cases
 pub mod Relation
 pub mod Ends
+pub mod Budgets
