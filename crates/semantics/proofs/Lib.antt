@@ -3,3 +3,5 @@ pub mod Continuations
 pub mod Lookups
 pub mod NotBad
 pub mod Grows
+pub mod Alike
+pub mod SideBySide
