@@ -81,27 +81,32 @@ module _ (R C : Type 0) (A : State → State → Type 0) where
   matched-less A₂ f bad (no-calls s) m = m
   matched-less A₂ f bad bad m = m
 
-  -- an end that is not for want of what the second run has more of is the second's end too
-  abbrev pub Lacks-no-less : Behaviour → Type 0
-  Lacks-no-less (done ws) = Unit {0}
-  Lacks-no-less (without-calls ws) = C
-  Lacks-no-less (without-room ws) = R
-
 extends-behaviour : (ws : List ℕ) (r : Result) (b : Behaviour) → Extends ws r → behaviour r ≡ Some b → Begins ws (put-out b)
 extends-behaviour ws (value v s) b h e = subst (λ c. Begins ws (put-out c)) (same-some (done (s .outs)) b e) h
 extends-behaviour ws (no-room s) b h e = subst (λ c. Begins ws (put-out c)) (same-some (without-room (s .outs)) b e) h
 extends-behaviour ws (no-calls s) b h e = subst (λ c. Begins ws (put-out c)) (same-some (without-calls (s .outs)) b e) h
 extends-behaviour ws bad b h e = absurd (none-some b e)
 
--- what is seen of two results that keep step
+-- an end that was not for want of what the second run has more of
+abbrev pub Not-for-want : Type 0 → Type 0 → Behaviour → Type 0
+Not-for-want R C (done ws) = Unit {0}
+Not-for-want R C (without-calls ws) = C
+Not-for-want R C (without-room ws) = R
+
+-- what is seen of two runs that keep step
+pub record Seen (R C : Type 0) (o o′ : Option Behaviour) : Type 0 where
+  pub same-end : (b : Behaviour) → Not-for-want R C b → o ≡ Some b → o′ ≡ Some b
+  pub beginning : (b b′ : Behaviour) → o ≡ Some b → o′ ≡ Some b′ → Begins (put-out b) (put-out b′)
+  pub both-end : (b′ : Behaviour) → o′ ≡ Some b′ → (b : Behaviour) × (o ≡ Some b)
+
 module _ (R C : Type 0) (A : State → State → Type 0) (outs : (s s′ : State) → A s s′ → s .outs ≡ s′ .outs) where
-  pub same-end : (r r′ : Result) → Matched R C A r r′ → (b : Behaviour) → Lacks-no-less R C A b → behaviour r ≡ Some b → behaviour r′ ≡ Some b
+  same-end : (r r′ : Result) → Matched R C A r r′ → (b : Behaviour) → Not-for-want R C b → behaviour r ≡ Some b → behaviour r′ ≡ Some b
   same-end (value v s) (value v′ s′) m b l e = ap (λ ws. Some (done ws)) (sym (outs s s′ (m .1))) ∙ e
   same-end (value v s) (no-room s′) m b l e = absurd m
   same-end (value v s) (no-calls s′) m b l e = absurd m
   same-end (value v s) bad m b l e = absurd m
-  same-end (no-room s) r′ m b l e = m .same (subst (Lacks-no-less R C A) (sym (same-some (without-room (s .outs)) b e)) l) ∙ e
-  same-end (no-calls s) r′ m b l e = m .same (subst (Lacks-no-less R C A) (sym (same-some (without-calls (s .outs)) b e)) l) ∙ e
+  same-end (no-room s) r′ m b l e = m .same (subst (Not-for-want R C) (sym (same-some (without-room (s .outs)) b e)) l) ∙ e
+  same-end (no-calls s) r′ m b l e = m .same (subst (Not-for-want R C) (sym (same-some (without-calls (s .outs)) b e)) l) ∙ e
   same-end bad r′ m b l e = absurd (none-some b e)
 
   goes-further : (r r′ : Result) → Matched R C A r r′ → (b : Behaviour) → behaviour r ≡ Some b → Extends (put-out b) r′
@@ -114,10 +119,10 @@ module _ (R C : Type 0) (A : State → State → Type 0) (outs : (s s′ : State
   goes-further (no-calls s) r′ m b e = subst (λ c. Extends (put-out c) r′) (same-some (without-calls (s .outs)) b e) (m .longer)
   goes-further bad r′ m b e = absurd (none-some b e)
 
-  pub same-beginning : (r r′ : Result) → Matched R C A r r′ → (b b′ : Behaviour) → behaviour r ≡ Some b → behaviour r′ ≡ Some b′ → Begins (put-out b) (put-out b′)
+  same-beginning : (r r′ : Result) → Matched R C A r r′ → (b b′ : Behaviour) → behaviour r ≡ Some b → behaviour r′ ≡ Some b′ → Begins (put-out b) (put-out b′)
   same-beginning r r′ m b b′ e e′ = extends-behaviour (put-out b) r′ b′ (goes-further r r′ m b e) e′
 
-  pub both-end : (r r′ : Result) → Matched R C A r r′ → (b′ : Behaviour) → behaviour r′ ≡ Some b′ → (b : Behaviour) × (behaviour r ≡ Some b)
+  both-end : (r r′ : Result) → Matched R C A r r′ → (b′ : Behaviour) → behaviour r′ ≡ Some b′ → (b : Behaviour) × (behaviour r ≡ Some b)
   both-end (value v s) r′ m b′ e′ = (done (s .outs), refl)
   both-end (no-room s) r′ m b′ e′ = (without-room (s .outs), refl)
   both-end (no-calls s) r′ m b′ e′ = (without-calls (s .outs), refl)
@@ -125,3 +130,6 @@ module _ (R C : Type 0) (A : State → State → Type 0) (outs : (s s′ : State
   both-end bad (no-room s) m b′ e′ = absurd m
   both-end bad (no-calls s) m b′ e′ = absurd m
   both-end bad bad m b′ e′ = absurd (none-some b′ e′)
+
+  pub seen : (r r′ : Result) → Matched R C A r r′ → Seen R C (behaviour r) (behaviour r′)
+  seen r r′ m = record { same-end = same-end r r′ m; beginning = same-beginning r r′ m; both-end = both-end r r′ m }

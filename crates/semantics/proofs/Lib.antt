@@ -5,3 +5,5 @@ pub mod NotBad
 pub mod Grows
 pub mod Alike
 pub mod SideBySide
+pub mod Thresholds
+pub mod Budgets

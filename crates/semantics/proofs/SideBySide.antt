@@ -15,11 +15,11 @@ use Rattle.std.proofs.iter.runs.Lists.{none-some, same-some}
 use Rattle.rows.specs.Options.{_>>=_}
 use Rattle.rows.specs.Units.{Expr, num, arg, word, op, if, keep, then, out, next, call, Exprs, nil, cons, Proc, SourceUnit}
 use Rattle.rows.specs.Frames.{frame}
-use Rattle.semantics.specs.Runs.{State, Result, value, no-room, no-calls, bad, with-words, with-left, keep-at, on, ons, choose, eval, evals, Target, target, proc-at, spend, enter, through, run, source}
+use Rattle.semantics.specs.Runs.{State, Result, value, no-room, no-calls, bad, with-words, with-left, keep-at, on, ons, choose, eval, evals, Target, target, proc-at, spend, enter, through, run, zeros, source}
 use Rattle.semantics.specs.Whole.{Behaviour, without-calls, without-room, behaviour}
 use Rattle.semantics.proofs.Continuations.{ons-cons, choose-both, through-both}
 use Rattle.semantics.proofs.Grows.{Grows, Extends, begins-same, begins-push, on-extends, eval-grows, evals-grow, run-grows}
-use Rattle.semantics.proofs.Alike.{Alike, Follows, Matched, on-matched, choose-matched, matched-less}
+use Rattle.semantics.proofs.Alike.{Alike, Follows, Matched, on-matched, choose-matched, matched-less, Seen, seen}
 
 -- expressions in the units at i and at j, whose words W relates; x and x′ are what their callees do
 module _ (R C : Type 0) (W : List (List ℕ) → List (List ℕ) → Type 0) (L : ℕ → ℕ → Type 0) (i j : ℕ)
@@ -164,3 +164,11 @@ module _ (us us′ : List SourceUnit) (P : ℕ → ℕ → Type 0) (W : List (Li
       (λ q fits. body-matched d d′ (room - frame q) (room′ - frame q)
       (run-matched d d′ (room - frame q) (room′ - frame q) (omega arith) (λ r. ap (λ n. n - frame q) (eq r)))
       (t .unit) (t′ .unit) u (q .body) vs _ _ (one-call-less C W d d′ s s′ m m′ is is′ a)))
+
+  -- the programs on one tape
+  pub programs-seen : W (zeros us) (zeros us′) → P 0 0 → (tape : List ℕ) (room room′ calls calls′ : ℕ) → room ≤ room′ → (R → room ≡ room′) → calls ≤ calls′ → (C → calls ≡ calls′) →
+      Seen R C (behaviour (source us room tape calls)) (behaviour (source us′ room′ tape calls′))
+  programs-seen words first tape room room′ calls calls′ le eq le′ eq′ =
+      seen R C (Alike W (Calls C (suc calls) (suc calls′))) (λ s s′ a. a .outs) (source us room tape calls) (source us′ room′ tape calls′)
+      (run-matched (suc calls) (suc calls′) room room′ le eq (record { unit = 0; proc = 0 }) (record { unit = 0; proc = 0 }) refl first [] _ _
+      (record { words = words; tape = refl; outs = refl; left = record { more = le′; same = eq′; deep = omega arith; deep′ = omega arith } }))

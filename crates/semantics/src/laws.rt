@@ -1,7 +1,13 @@
 // Theorems on what units do together: each function's contract is one, proved of the definitions in specs/.
+ghost use Rattle.semantics.specs.Budgets.{Budgets-exact};
 ghost use Rattle.semantics.specs.Ends.{Ends};
 
 // Programs of units that fit together end in one of three ways.
 pub fn programs_end()
     ensures { λ _. ⌜ Ends ⌝ }
+{}
+
+// More room or more calls change nothing but how far a run gets, and each has a least amount that is enough.
+pub fn budgets_are_exact()
+    ensures { λ _. ⌜ Budgets-exact ⌝ }
 {}
