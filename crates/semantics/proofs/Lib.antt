@@ -1,9 +1,11 @@
 mod Cases
 pub mod Continuations
 pub mod Lookups
+pub mod Names
 pub mod NotBad
 pub mod Grows
 pub mod Alike
 pub mod SideBySide
 pub mod Thresholds
 pub mod Budgets
+pub mod Company

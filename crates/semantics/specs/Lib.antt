@@ -5,3 +5,4 @@ pub mod Cases
 pub mod Relation
 pub mod Ends
 pub mod Budgets
+pub mod Company
