@@ -3,7 +3,7 @@ use mathlib.Core.Path.{_≡_, refl, sym, ap, subst, _∙_}
 use mathlib.Core.List.{List}
 use Prim.Native.Nat.{ℕ, zero, suc}
 use Rattle.std.specs.declared.option.Option.{Option}
-use Rattle.std.specs.declared.option.Option.the-variants.{Some, None}
+use Rattle.std.specs.declared.option.Option.the-variants.{Some}
 use Rattle.std.proofs.iter.runs.Lists.{none-some, same-some}
 use Rattle.semantics.specs.Runs.{State, Result, value, no-room, no-calls, bad, on, choose}
 use Rattle.semantics.specs.Whole.{Behaviour, done, without-calls, without-room, behaviour}

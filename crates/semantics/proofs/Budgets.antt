@@ -2,16 +2,16 @@
 use mathlib.Core.Path.{_≡_, refl, ap, ap₂, subst}
 use mathlib.Core.List.{List, []}
 use mathlib.Core.Logic.{_⊎_, inl, inr}
-use Prim.Native.Nat.{ℕ, suc, _≤_}
+use Prim.Native.Nat.{ℕ, _≤_}
 use native.Mathlib.Nat.{le-refl}
 use lib.ListN.{getD}
 use Rattle.std.specs.declared.option.Option.{Option}
 use Rattle.std.specs.declared.option.Option.the-variants.{Some, None}
 use Rattle.std.specs.Finite.{nth}
 use Rattle.rows.specs.Units.{SourceUnit}
-use Rattle.semantics.specs.Runs.{State, keep-at, Target, target, zeros, source}
+use Rattle.semantics.specs.Runs.{keep-at, Target, target, source}
 use Rattle.semantics.specs.Whole.{Behaviour, done, without-calls, without-room, behaviour}
-use Rattle.semantics.specs.Budgets.{Begins, put-out, Enough-calls, Enough-room, More-calls, More-room, Stays-done, Goes-further, Least-calls, Least-room, Budgets-exact}
+use Rattle.semantics.specs.Budgets.{Enough-calls, Enough-room, More-calls, More-room, Budgets-exact}
 use Rattle.semantics.proofs.Alike.{Not-for-want, Seen}
 use Rattle.semantics.proofs.SideBySide.{Both-find, Correspond, programs-seen}
 use Rattle.semantics.proofs.Thresholds.{least}

@@ -2,10 +2,9 @@
 use mathlib.Core.Path.{_≡_, refl, sym, ap, subst, subst₂, _∙_}
 use mathlib.Core.Bool.{Bool, true, false, cond}
 use mathlib.Core.List.{List, [], _∷_, _++_}
-use mathlib.Core.Logic.{_⊎_, _≢_, inl, inr, ⊎-elim}
-use Prim.Native.Nat.{ℕ, zero, suc, _-_, _<_, _≤_}
+use mathlib.Core.Logic.{_≢_, inl, inr, ⊎-elim}
+use Prim.Native.Nat.{ℕ, zero, suc, _-_, _<_}
 use native.Mathlib.Nat.{le-refl}
-use native.Mathlib.Omega.{arith}
 use lib.Dec.{T, ltb}
 use lib.ListN.{length, replicate, getD, set}
 use Rattle.std.specs.declared.option.Option.{Option}
@@ -16,13 +15,13 @@ use Rattle.std.proofs.shelf.Lists.{length-set, getD-set-same, getD-set-other}
 use Rattle.std.proofs.shelf.Tests.{cases-eq}
 use Rattle.rows.specs.Options.{_>>=_}
 use Rattle.rows.specs.Units.{Want, SourceUnit}
-use Rattle.semantics.specs.Runs.{keep-at, position, wanted, target, zeros, source}
-use Rattle.semantics.specs.Whole.{Fit-together, names, distinct, all-met, Behaviour, done, without-calls, without-room, behaviour}
-use Rattle.semantics.specs.Company.{In, Do-the-same, Any-company, Any-order, One-more, Company-does-not-matter}
+use Rattle.semantics.specs.Runs.{keep-at, position, wanted, target, zeros}
+use Rattle.semantics.specs.Whole.{names, distinct, all-met, Behaviour, done, without-calls, without-room}
+use Rattle.semantics.specs.Company.{In, Any-company, Company-does-not-matter}
 use Rattle.semantics.proofs.Lookups.{Met, want-met, met-wanted, target-at}
 use Rattle.semantics.proofs.Names.{position-nth, position-named, same-place, in-place, place-in, nth-below}
 use Rattle.semantics.proofs.NotBad.{ends}
-use Rattle.semantics.proofs.Alike.{Not-for-want, Seen}
+use Rattle.semantics.proofs.Alike.{Not-for-want}
 use Rattle.semantics.proofs.SideBySide.{Both-find, Correspond, programs-seen}
 
 -- the places i and j have the same unit

@@ -1,9 +1,9 @@
 -- What is put out stays put out: it begins what any run from there puts out.
-use mathlib.Core.Path.{_≡_, refl, ap, sym, subst, _∙_}
+use mathlib.Core.Path.{_≡_, ap, sym, subst, _∙_}
 use mathlib.Core.List.{List, [], _∷_, _++_, append-nil, append-assoc}
-use Prim.Native.Nat.{ℕ, zero, suc, _-_}
+use Prim.Native.Nat.{ℕ, zero, suc}
 use Rattle.rows.specs.Units.{Expr, num, arg, word, op, if, keep, then, out, next, call, Exprs, nil, cons, SourceUnit}
-use Rattle.semantics.specs.Runs.{State, Result, value, no-room, no-calls, bad, on, ons, choose, eval, evals, Target, target, proc-at, through, run}
+use Rattle.semantics.specs.Runs.{State, Result, value, no-room, no-calls, bad, on, ons, eval, evals, Target, target, proc-at, run}
 use Rattle.semantics.specs.Budgets.{Begins}
 use Rattle.semantics.proofs.Continuations.{ons-cons, choose-both, spend-both, enter-both, through-both}
 

@@ -1,18 +1,18 @@
 -- Programs of units that fit together never come to the bad state.
 use mathlib.Core.Path.{_≡_, refl, sym, subst, _∙_}
-use mathlib.Core.Bool.{Bool, true, false, cond, _&&_}
+use mathlib.Core.Bool.{_&&_}
 use mathlib.Core.List.{List, [], _∷_}
 use Prim.Native.Nat.{ℕ, zero, suc, _-_}
 use lib.Dec.{T, ltb}
 use Rattle.std.specs.declared.option.Option.{Option}
-use Rattle.std.specs.declared.option.Option.the-variants.{Some, None}
+use Rattle.std.specs.declared.option.Option.the-variants.{Some}
 use Rattle.std.specs.Options.{mapped}
 use Rattle.std.specs.Finite.{nth}
 use Rattle.std.proofs.iter.runs.Lists.{none-some}
 use Rattle.rows.specs.Units.{Expr, num, arg, word, op, if, keep, then, out, next, call, Exprs, nil, cons, count, Proc, SourceUnit, arity}
 use Rattle.rows.specs.Formed.{takes, formed, formed-args}
 use Rattle.rows.specs.Frames.{frame}
-use Rattle.semantics.specs.Runs.{State, Result, value, no-room, no-calls, bad, on, ons, eval, evals, Target, target, proc-at, spend, enter, through, run, source}
+use Rattle.semantics.specs.Runs.{State, Result, value, no-room, no-calls, bad, on, ons, eval, evals, Target, target, proc-at, through, run, source}
 use Rattle.semantics.specs.Whole.{among, starts, all-met, all-formed, Behaviour, done, without-calls, without-room, behaviour}
 use Rattle.semantics.specs.Ends.{Ends}
 use Rattle.semantics.proofs.Continuations.{ons-cons, choose-both, spend-both, enter-both}

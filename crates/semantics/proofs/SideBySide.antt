@@ -15,11 +15,11 @@ use Rattle.std.proofs.iter.runs.Lists.{none-some, same-some}
 use Rattle.rows.specs.Options.{_>>=_}
 use Rattle.rows.specs.Units.{Expr, num, arg, word, op, if, keep, then, out, next, call, Exprs, nil, cons, Proc, SourceUnit}
 use Rattle.rows.specs.Frames.{frame}
-use Rattle.semantics.specs.Runs.{State, Result, value, no-room, no-calls, bad, with-words, with-left, keep-at, on, ons, choose, eval, evals, Target, target, proc-at, spend, enter, through, run, zeros, source}
-use Rattle.semantics.specs.Whole.{Behaviour, without-calls, without-room, behaviour}
+use Rattle.semantics.specs.Runs.{State, Result, no-room, with-left, keep-at, ons, eval, evals, Target, target, proc-at, spend, enter, through, run, zeros, source}
+use Rattle.semantics.specs.Whole.{without-calls, without-room, behaviour}
 use Rattle.semantics.proofs.Continuations.{ons-cons, choose-both, through-both}
 use Rattle.semantics.proofs.Grows.{Grows, Extends, begins-same, begins-push, on-extends, eval-grows, evals-grow, run-grows}
-use Rattle.semantics.proofs.Alike.{Alike, Follows, Matched, on-matched, choose-matched, matched-less, Seen, seen}
+use Rattle.semantics.proofs.Alike.{Alike, Matched, on-matched, choose-matched, matched-less, Seen, seen}
 
 -- expressions in the units at i and at j, whose words W relates; x and x′ are what their callees do
 module _ (R C : Type 0) (W : List (List ℕ) → List (List ℕ) → Type 0) (L : ℕ → ℕ → Type 0) (i j : ℕ)
