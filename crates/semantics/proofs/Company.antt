@@ -2,7 +2,7 @@
 use mathlib.Core.Path.{_≡_, refl, sym, ap, subst, subst₂, _∙_}
 use mathlib.Core.Bool.{Bool, true, false, cond}
 use mathlib.Core.List.{List, [], _∷_, _++_}
-use mathlib.Core.Logic.{_≢_, inl, inr, ⊎-elim}
+use mathlib.Core.Logic.{_≢_, inr, ⊎-elim}
 use Prim.Native.Nat.{ℕ, zero, suc, _-_, _<_}
 use native.Mathlib.Nat.{le-refl}
 use lib.Dec.{T, ltb}
@@ -15,11 +15,12 @@ use Rattle.std.proofs.shelf.Lists.{length-set, getD-set-same, getD-set-other}
 use Rattle.std.proofs.shelf.Tests.{cases-eq}
 use Rattle.rows.specs.Options.{_>>=_}
 use Rattle.rows.specs.Units.{Want, SourceUnit}
-use Rattle.semantics.specs.Runs.{keep-at, position, wanted, target, zeros}
+use Rattle.semantics.specs.Runs.{keep-at, wanted, target, zeros}
 use Rattle.semantics.specs.Whole.{names, distinct, all-met, Behaviour, done, without-calls, without-room}
 use Rattle.semantics.specs.Company.{In, Any-company, Company-does-not-matter}
 use Rattle.semantics.proofs.Lookups.{Met, want-met, met-wanted, target-at}
-use Rattle.semantics.proofs.Names.{position-nth, position-named, same-place, in-place, place-in, nth-below}
+use Rattle.semantics.proofs.Names.{same-place, nth-below, in-more, met-there}
+use Rattle.semantics.proofs.AnyOrder.{fits-in-any-order}
 use Rattle.semantics.proofs.NotBad.{ends}
 use Rattle.semantics.proofs.Alike.{Not-for-want}
 use Rattle.semantics.proofs.SideBySide.{Both-find, Correspond, programs-seen}
@@ -55,10 +56,8 @@ one-place us vs i j i₁ j₁ apart u u₁ e =
 module _ (us vs : List SourceUnit) (met : T (all-met us us)) (apart : T (distinct (names us))) (apart′ : T (distinct (names vs))) (among : (w : SourceUnit) → In w us → In w vs) where
   same-wanted : (w : Want) → Met us w → Both-find (Same-unit us vs) (wanted us w) (wanted vs w)
   same-wanted w m =
-      let j = in-place vs (m .unit) (among (m .unit) (place-in us (m .place) (m .unit) (m .there))) in
-      let name = position-named us (w .unit) (m .place) (m .unit) (m .named) (m .there) in
-      let named′ = subst (λ n. position n vs ≡ Some (j .0)) name (position-nth vs (j .0) (m .unit) apart′ (j .1)) in
-      subst₂ (Both-find (Same-unit us vs)) (sym (met-wanted us w (m .place) (m .named))) (sym (met-wanted vs w (j .0) named′)) (refl, (m .unit, m .there, j .1))
+      let j = met-there us vs apart′ among w m in
+      subst₂ (Both-find (Same-unit us vs)) (sym (met-wanted us w (m .place) (m .named))) (sym (met-wanted vs w (j .0) (j .1))) (refl, (m .unit, m .there, j .2))
 
   same-callee : (i j : ℕ) → Same-unit us vs i j → (c : ℕ) → Both-find (Same-unit us vs) (target us i c) (target vs j c)
   same-callee i j u c =
@@ -91,10 +90,6 @@ module _ (us vs : List SourceUnit) (met : T (all-met us us)) (apart : T (distinc
   all-same : Correspond us vs (Same-unit us vs) (Same-words us vs)
   all-same = record { unit = λ i j u. u .1 ∙ sym (u .2); callee = same-callee; reads = λ i j u ws ws′ w. w .same i j u; keeps = same-keeps }
 
-in-more : (u : SourceUnit) (us vs : List SourceUnit) → ((w : SourceUnit) → In w us → In w vs) → (w : SourceUnit) → In w (u ∷ us) → In w (u ∷ vs)
-in-more u us vs f w (inl e) = inl e
-in-more u us vs f w (inr h) = inr (f w h)
-
 as-much : (b : Behaviour) → Not-for-want (Unit {0}) (Unit {0}) b
 as-much (done ws) = tt
 as-much (without-calls ws) = tt
@@ -116,5 +111,6 @@ pub company : Company-does-not-matter
 company = record {
   any-company = any-company;
   any-order = λ u us vs fit fit′ same. any-company u us vs fit fit′ (λ w. same w .0);
+  fits-in-any-order = fits-in-any-order;
   one-more = λ u w us vs fit fit′. any-company u (us ++ vs) (us ++ (w ∷ vs)) fit fit′ (in-between w us vs);
 }

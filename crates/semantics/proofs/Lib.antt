@@ -8,4 +8,5 @@ pub mod Alike
 pub mod SideBySide
 pub mod Thresholds
 pub mod Budgets
+pub mod AnyOrder
 pub mod Company

@@ -22,6 +22,12 @@ and-both true false t = absurd t
 and-both false true t = absurd t
 and-both false false t = absurd t
 
+pub both-and : (a b : Bool) → T a → T b → T (a && b)
+both-and true true t u = tt
+both-and true false t u = u
+both-and false true t u = t
+both-and false false t u = t
+
 -- f tests every element: `λ _ _. refl` shows its clause
 pub nth-passes : {X : Type 0} (p : X → Bool) (f : List X → Bool) → ((x : X) (xs : List X) → f (x ∷ xs) ≡ (p x && f xs)) →
     (xs : List X) (i : ℕ) (y : X) → T (f xs) → nth xs i ≡ Some y → T (p y)
@@ -29,12 +35,18 @@ nth-passes p f more [] i y t e = absurd (none-some y e)
 nth-passes p f more (x ∷ xs) zero y t e = subst (λ z. T (p z)) (same-some x y e) (and-both (p x) (f xs) (rw (more x xs) at t) .0)
 nth-passes p f more (x ∷ xs) (suc i) y t e = nth-passes p f more xs i y (and-both (p x) (f xs) (rw (more x xs) at t) .1) e
 
+-- and the other way round
+pub all-pass : {X : Type 0} (p : X → Bool) (f : List X → Bool) → f [] ≡ true → ((x : X) (xs : List X) → f (x ∷ xs) ≡ (p x && f xs)) →
+    (xs : List X) → ((i : ℕ) (y : X) → nth xs i ≡ Some y → T (p y)) → T (f xs)
+all-pass p f none more [] h = subst T (sym none) tt
+all-pass p f none more (x ∷ xs) h = subst T (sym (more x xs)) (both-and (p x) (f xs) (h 0 x refl) (all-pass p f none more xs (λ i. h (suc i))))
+
 -- where two steps that may find nothing found something, the first did
 pub both-found : {A B : Type 0} (o : Option A) (f : A → Option B) (b : B) → (o >>= f) ≡ Some b → (a : A) × (o ≡ Some a) × (f a ≡ Some b)
 both-found None f b e = absurd (none-some b e)
 both-found (Some a) f b e = (a, refl, e)
 
-found-both : {A B : Type 0} {o : Option A} (f : A → Option B) {a : A} {b : B} → o ≡ Some a → f a ≡ Some b → (o >>= f) ≡ Some b
+pub found-both : {A B : Type 0} {o : Option A} (f : A → Option B) {a : A} {b : B} → o ≡ Some a → f a ≡ Some b → (o >>= f) ≡ Some b
 found-both f e h = ap (λ o. o >>= f) e ∙ h
 
 takes-found : {A : Type 0} (o : Option A) (f : A → ℕ) (n : ℕ) → T (takes (mapped f o) n) → (a : A) × (o ≡ Some a) × (f a ≡ n)

@@ -12,11 +12,11 @@ use Rattle.std.specs.Options.{mapped}
 use Rattle.std.specs.Finite.{nth}
 use Rattle.std.proofs.iter.runs.Lists.{none-some, same-some}
 use Rattle.std.proofs.shelf.Tests.{eq-eqb, ne-eqb, cond-true, cond-false, eqb-true}
-use Rattle.rows.specs.Units.{SourceUnit}
+use Rattle.rows.specs.Units.{Want, SourceUnit}
 use Rattle.semantics.specs.Runs.{position}
 use Rattle.semantics.specs.Whole.{among, names, distinct}
 use Rattle.semantics.specs.Company.{In}
-use Rattle.semantics.proofs.Lookups.{and-both}
+use Rattle.semantics.proofs.Lookups.{and-both, Met}
 
 either-left : (a b : Bool) → T a → T (a || b)
 either-left true b t = tt
@@ -26,7 +26,7 @@ either-right : (a b : Bool) → T b → T (a || b)
 either-right true b t = tt
 either-right false b t = t
 
-among-names : (us : List SourceUnit) (i : ℕ) (w : SourceUnit) → nth us i ≡ Some w → T (among (w .name) (names us))
+pub among-names : (us : List SourceUnit) (i : ℕ) (w : SourceUnit) → nth us i ≡ Some w → T (among (w .name) (names us))
 among-names [] i w e = absurd (none-some w e)
 among-names (u ∷ us) zero w e = either-left (eqb (w .name) (u .name)) (among (w .name) (names us)) (subst (λ v. T (eqb (v .name) (u .name))) (same-some u w e) (eqb-refl (u .name)))
 among-names (u ∷ us) (suc i) w e = either-right (eqb (w .name) (u .name)) (among (w .name) (names us)) (among-names us i w e)
@@ -76,3 +76,15 @@ pub nth-below : {X : Type 0} (xs : List X) (i : ℕ) (x : X) → nth xs i ≡ So
 nth-below [] i x e = absurd (none-some x e)
 nth-below (y ∷ xs) zero x e = suc-le-suc zero-le
 nth-below (y ∷ xs) (suc i) x e = suc-le-suc (nth-below xs i x e)
+
+pub in-more : (u : SourceUnit) (us vs : List SourceUnit) → ((w : SourceUnit) → In w us → In w vs) → (w : SourceUnit) → In w (u ∷ us) → In w (u ∷ vs)
+in-more u us vs f w (inl e) = inl e
+in-more u us vs f w (inr h) = inr (f w h)
+
+-- in a program with all these units, what meets a want is found under its name
+pub met-there : (us vs : List SourceUnit) → T (distinct (names vs)) → ((w : SourceUnit) → In w us → In w vs) →
+    (w : Want) (m : Met us w) → (j : ℕ) × (position (w .unit) vs ≡ Some j) × (nth vs j ≡ Some (m .unit))
+met-there us vs apart among w m =
+    let j = in-place vs (m .unit) (among (m .unit) (place-in us (m .place) (m .unit) (m .there))) in
+    let name = position-named us (w .unit) (m .place) (m .unit) (m .named) (m .there) in
+    (j .0, subst (λ n. position n vs ≡ Some (j .0)) name (position-nth vs (j .0) (m .unit) apart (j .1)), j .1)
