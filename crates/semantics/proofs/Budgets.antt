@@ -12,13 +12,14 @@ use Rattle.rows.specs.Units.{SourceUnit}
 use Rattle.semantics.specs.Runs.{keep-at, Target, target, source}
 use Rattle.semantics.specs.Whole.{Behaviour, done, without-calls, without-room, behaviour}
 use Rattle.semantics.specs.Budgets.{Enough-calls, Enough-room, More-calls, More-room, Budgets-exact}
-use Rattle.semantics.proofs.Alike.{Not-for-want, Seen}
-use Rattle.semantics.proofs.SideBySide.{Both-find, Correspond, programs-seen}
+use Rattle.semantics.proofs.Seen.{Not-for-want, Seen}
+use Rattle.semantics.proofs.Matched.{Both-find, neither, both}
+use Rattle.semantics.proofs.SideBySide.{Correspond, programs-seen}
 use Rattle.semantics.proofs.Thresholds.{least}
 
 find-same : (o : Option Target) → Both-find (_≡_ {A = ℕ}) o o
-find-same None = tt
-find-same (Some t) = (refl, refl)
+find-same None = neither
+find-same (Some t) = both refl refl
 
 with-itself : (us : List SourceUnit) → Correspond us us (_≡_ {A = ℕ}) (_≡_ {A = List (List ℕ)})
 with-itself us = record {
@@ -31,7 +32,8 @@ with-itself us = record {
 more-of-both : (us : List SourceUnit) (tape : List ℕ) (room room′ calls calls′ : ℕ) → room ≤ room′ → calls ≤ calls′ →
     Seen (room ≡ room′) (calls ≡ calls′) (behaviour (source us room tape calls)) (behaviour (source us room′ tape calls′))
 more-of-both us tape room room′ calls calls′ le le′ =
-    programs-seen us us (_≡_ {A = ℕ}) (_≡_ {A = List (List ℕ)}) (with-itself us) (room ≡ room′) (calls ≡ calls′) refl refl tape room room′ calls calls′ le (λ e. e) le′ (λ e. e)
+    programs-seen us us (_≡_ {A = ℕ}) (_≡_ {A = List (List ℕ)}) (with-itself us) (room ≡ room′) (calls ≡ calls′) refl refl
+    tape room room′ calls calls′ le (λ e. e) le′ (λ e. e)
 
 not-for-calls : (R C : Type 0) → R → (b : Behaviour) → Enough-calls b → Not-for-want R C b
 not-for-calls R C r (done ws) h = tt

@@ -22,14 +22,15 @@ use Rattle.semantics.proofs.Lookups.{Met, want-met, met-wanted, target-at}
 use Rattle.semantics.proofs.Names.{same-place, nth-below, in-more, met-there}
 use Rattle.semantics.proofs.AnyOrder.{fits-in-any-order}
 use Rattle.semantics.proofs.NotBad.{ends}
-use Rattle.semantics.proofs.Alike.{Not-for-want}
-use Rattle.semantics.proofs.SideBySide.{Both-find, Correspond, programs-seen}
+use Rattle.semantics.proofs.Seen.{Not-for-want}
+use Rattle.semantics.proofs.Matched.{Both-find, neither, both}
+use Rattle.semantics.proofs.SideBySide.{Correspond, programs-seen}
 
 -- the places i and j have the same unit
 abbrev Same-unit : List SourceUnit → List SourceUnit → ℕ → ℕ → Type 0
 Same-unit us vs i j = (w : SourceUnit) × (nth us i ≡ Some w) × (nth vs j ≡ Some w)
 
--- every unit's words, and the same for the same unit
+-- words for every unit of both programs, and the same for the same unit
 record Same-words (us vs : List SourceUnit) (ws ws′ : List (List ℕ)) : Type 0 where
   all : length ws ≡ length us
   all′ : length ws′ ≡ length vs
@@ -53,30 +54,36 @@ one-place us vs i j i₁ j₁ apart u u₁ e =
     let same = same-some (u₁ .0) (u .0) (sym (u₁ .1) ∙ ap (nth us) e ∙ u .1) in
     same-place vs j₁ j (u .0) apart (subst (λ w. nth vs j₁ ≡ Some w) same (u₁ .2)) (u .2)
 
-module _ (us vs : List SourceUnit) (met : T (all-met us us)) (apart : T (distinct (names us))) (apart′ : T (distinct (names vs))) (among : (w : SourceUnit) → In w us → In w vs) where
+-- the units of us are met among themselves and are all among those of vs
+module _ (us vs : List SourceUnit) (met : T (all-met us us)) (apart : T (distinct (names us))) (apart′ : T (distinct (names vs)))
+    (among : (w : SourceUnit) → In w us → In w vs) where
   same-wanted : (w : Want) → Met us w → Both-find (Same-unit us vs) (wanted us w) (wanted vs w)
   same-wanted w m =
       let j = met-there us vs apart′ among w m in
-      subst₂ (Both-find (Same-unit us vs)) (sym (met-wanted us w (m .place) (m .named))) (sym (met-wanted vs w (j .0) (j .1))) (refl, (m .unit, m .there, j .2))
+      subst₂ (Both-find (Same-unit us vs)) (sym (met-wanted us w (m .place) (m .named))) (sym (met-wanted vs w (j .0) (j .1))) (both refl (m .unit, m .there, j .2))
 
   same-callee : (i j : ℕ) → Same-unit us vs i j → (c : ℕ) → Both-find (Same-unit us vs) (target us i c) (target vs j c)
   same-callee i j u c =
       subst₂ (Both-find (Same-unit us vs)) (sym (target-at us i c (u .0) (u .1))) (sym (target-at vs j c (u .0) (u .2))) (which (ltb c (length (u .0 .wants))))
     where
       want : (o : Option Want) → nth (u .0 .wants) c ≡ o → Both-find (Same-unit us vs) (o >>= wanted us) (o >>= wanted vs)
-      want None e = tt
+      want None e = neither
       want (Some w) e = same-wanted w (want-met us i c (u .0) w met (u .1) e)
+
       which : (b : Bool) → Both-find (Same-unit us vs)
           (cond b (nth (u .0 .wants) c >>= wanted us) (Some (record { unit = i; proc = c - length (u .0 .wants) })))
           (cond b (nth (u .0 .wants) c >>= wanted vs) (Some (record { unit = j; proc = c - length (u .0 .wants) })))
       which true = want (nth (u .0 .wants) c) refl
-      which false = (refl, u)
+      which false = both refl u
 
   same-keeps : (i j : ℕ) → Same-unit us vs i j → (ws ws′ : List (List ℕ)) → Same-words us vs ws ws′ → (n v : ℕ) → Same-words us vs (keep-at ws i n v) (keep-at ws′ j n v)
   same-keeps i j u ws ws′ w n v = record {
     all = length-set ws i _ ∙ w .all;
     all′ = length-set ws′ j _ ∙ w .all′;
-    same = λ i₁ j₁ u₁. ⊎-elim (λ e. here i₁ j₁ e (one-place us vs i j i₁ j₁ apart′ u u₁ e)) (λ ne. other i₁ j₁ u₁ ne (λ e. ne (one-place vs us j i j₁ i₁ apart (u .0, u .2, u .1) (u₁ .0, u₁ .2, u₁ .1) e))) (cases-eq i₁ i);
+    same = λ i₁ j₁ u₁. ⊎-elim
+        (λ e. here i₁ j₁ e (one-place us vs i j i₁ j₁ apart′ u u₁ e))
+        (λ ne. other i₁ j₁ u₁ ne (λ e. ne (one-place vs us j i j₁ i₁ apart (u .0, u .2, u .1) (u₁ .0, u₁ .2, u₁ .1) e)))
+        (cases-eq i₁ i);
   }
     where
       here : (i₁ j₁ : ℕ) → i₁ ≡ i → j₁ ≡ j → getD (keep-at ws i n v) i₁ [] ≡ getD (keep-at ws′ j n v) j₁ []
@@ -84,6 +91,7 @@ module _ (us vs : List SourceUnit) (met : T (all-met us us)) (apart : T (distinc
           ap (λ k. getD (keep-at ws i n v) k []) e ∙ getD-set-same ws i _ [] (subst (λ l. i < l) (sym (w .all)) (nth-below us i (u .0) (u .1)))
           ∙ ap (λ xs. set xs n v) (w .same i j u)
           ∙ sym (ap (λ k. getD (keep-at ws′ j n v) k []) e′ ∙ getD-set-same ws′ j _ [] (subst (λ l. j < l) (sym (w .all′)) (nth-below vs j (u .0) (u .2))))
+
       other : (i₁ j₁ : ℕ) → Same-unit us vs i₁ j₁ → i₁ ≢ i → j₁ ≢ j → getD (keep-at ws i n v) i₁ [] ≡ getD (keep-at ws′ j n v) j₁ []
       other i₁ j₁ u₁ ne ne′ = getD-set-other ws i i₁ _ [] ne ∙ w .same i₁ j₁ u₁ ∙ sym (getD-set-other ws′ j j₁ _ [] ne′)
 
@@ -99,8 +107,8 @@ any-company : Any-company
 any-company u us vs fit fit′ f room calls tape =
     let b = ends (u ∷ us) room calls tape fit in
     let both = programs-seen (u ∷ us) (u ∷ vs) (Same-unit (u ∷ us) (u ∷ vs)) (Same-words (u ∷ us) (u ∷ vs))
-        (all-same (u ∷ us) (u ∷ vs) (fit .met) (fit .apart) (fit′ .apart) (in-more u us vs f))
-        (Unit {0}) (Unit {0}) (same-zeros (u ∷ us) (u ∷ vs)) (u, refl, refl) tape room room calls calls (le-refl room) (λ _. refl) (le-refl calls) (λ _. refl) in
+    (all-same (u ∷ us) (u ∷ vs) (fit .met) (fit .apart) (fit′ .apart) (in-more u us vs f))
+    (Unit {0}) (Unit {0}) (same-zeros (u ∷ us) (u ∷ vs)) (u, refl, refl) tape room room calls calls (le-refl room) (λ _. refl) (le-refl calls) (λ _. refl) in
     b .1 ∙ sym (both .same-end (b .0) (as-much (b .0)) (b .1))
 
 in-between : (w : SourceUnit) (us vs : List SourceUnit) → (v : SourceUnit) → In v (us ++ vs) → In v (us ++ (w ∷ vs))

@@ -4,7 +4,8 @@ pub mod Lookups
 pub mod Names
 pub mod NotBad
 pub mod Grows
-pub mod Alike
+pub mod Matched
+pub mod Seen
 pub mod SideBySide
 pub mod Thresholds
 pub mod Budgets

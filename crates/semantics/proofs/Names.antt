@@ -28,7 +28,8 @@ either-right false b t = t
 
 pub among-names : (us : List SourceUnit) (i : ℕ) (w : SourceUnit) → nth us i ≡ Some w → T (among (w .name) (names us))
 among-names [] i w e = absurd (none-some w e)
-among-names (u ∷ us) zero w e = either-left (eqb (w .name) (u .name)) (among (w .name) (names us)) (subst (λ v. T (eqb (v .name) (u .name))) (same-some u w e) (eqb-refl (u .name)))
+among-names (u ∷ us) zero w e =
+    either-left (eqb (w .name) (u .name)) (among (w .name) (names us)) (subst (λ v. T (eqb (v .name) (u .name))) (same-some u w e) (eqb-refl (u .name)))
 among-names (u ∷ us) (suc i) w e = either-right (eqb (w .name) (u .name)) (among (w .name) (names us)) (among-names us i w e)
 
 -- the unit at i is found under its name
