@@ -1,1 +1,6 @@
 mod Cases
+mod Options
+mod UnitRuns
+mod Steps
+mod Laid
+mod Finding

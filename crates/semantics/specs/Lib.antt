@@ -3,3 +3,4 @@ pub mod Runs
 pub mod Whole
 pub mod Cases
 pub mod Relation
+pub mod Theorems

@@ -1,0 +1,70 @@
+-- What follows from the relation of a unit and its object, whoever made the objects.
+use mathlib.Core.Path.{_≡_}
+use mathlib.Core.Bool.{Bool, false}
+use mathlib.Core.List.{List, [], _∷_}
+use mathlib.Core.Logic.{_≢_}
+use Prim.Native.Nat.{ℕ, suc, _+_, _^_, _<_, _≤_}
+use lib.ListN.{length, getD, take}
+use lib.Dec.{T}
+use Rattle.std.specs.declared.option.Option.{Option}
+use Rattle.std.specs.declared.option.Option.the-variants.{Some, None}
+use Rattle.std.specs.Options.{isSome}
+use Rattle.rows.specs.Units.{SourceUnit}
+use Rattle.rows.specs.Objects.{Object}
+use Rattle.machine.specs.Machine.{Machine, begin, at}
+use Rattle.machine.specs.Instructions.{steps}
+use Rattle.linker.specs.Linking.{offered, link, all-words, twice}
+use Rattle.semantics.specs.Runs.{State, Result, value, word-at, source}
+use Rattle.semantics.specs.Whole.{names, distinct, offers-proc, starts, all-met, Fit-together, Behaviour, behaviour, machine-behaviour}
+use Rattle.semantics.specs.Relation.{total, Imports, run-unit, CallSite, Entered, Returned, Placed, Wants-do, Object-of}
+
+-- os are objects of the units us, one for each, in the same order
+pub data Objects-of : List SourceUnit → List Object → Type 0 where
+  none : Objects-of [] []
+  more : {u : SourceUnit} {o : Object} {us : List SourceUnit} {os : List Object} → Object-of u o → Objects-of us os → Objects-of (u ∷ us) (o ∷ os)
+
+-- the object says of itself what its unit says: its name, its words, its wants, and what it offers with how many arguments
+pub record Says (u : SourceUnit) (o : Object) : Type 0 where
+  pub name : o .name ≡ u .name
+  pub words : o .words ≡ u .words
+  pub wants : o .wants ≡ u .wants
+  pub offers : (p k : ℕ) → isSome (offered p k (o .offers)) ≡ offers-proc u p k
+
+abbrev pub Says-the-same : Type 0
+Says-the-same = (u : SourceUnit) (o : Object) → Object-of u o → Says u o
+
+-- objects of units that fit together link, and no name stands twice
+abbrev pub Links : Type 0
+Links = (us : List SourceUnit) (os : List Object) → Objects-of us os → Fit-together us → (image : List ℕ) × (link os ≡ Some image) × (twice os ≡ false)
+
+-- and where objects of units link, each want is met by a unit that offers it with as many arguments, and the first unit can be started;
+-- where no object's name stands twice, no unit's does
+pub record Linkable (us : List SourceUnit) : Type 0 where
+  pub apart : T (distinct (names us))
+  pub starts : T (starts us)
+  pub met : T (all-met us us)
+
+abbrev pub Links-only : Type 0
+Links-only = (us : List SourceUnit) (os : List Object) (image : List ℕ) → Objects-of us os → link os ≡ Some image → twice os ≡ false → Linkable us
+
+-- the image that objects of units are linked to does what the units do: it ends in the same way, and has put out the same words.
+-- For any tape and number of calls, and for any room that is a word and fits the memory with the units' words
+abbrev pub Linked-runs : Type 0
+Linked-runs = (us : List SourceUnit) (os : List Object) (image : List ℕ) → Objects-of us os → Fit-together us → link os ≡ Some image → length image < 2 ^ 32 →
+    (room calls : ℕ) (tape : List ℕ) → room < 2 ^ 32 → all-words os + room ≤ 2 ^ 32 →
+    (n : ℕ) × (b : Behaviour) × (behaviour (source us room tape calls) ≡ Some b) × (machine-behaviour (steps n image (begin (all-words os) room tape calls)) ≡ Some b)
+
+-- word b of unit j stays as it is in calls of wants that do what x says
+abbrev pub Wants-leave : Imports → ℕ → ℕ → Type 0
+Wants-leave x j b = (d c room : ℕ) (vs : List ℕ) (s : State) (v : ℕ) (s′ : State) → x d c room vs s ≡ value v s′ → word-at (s′ .words) j b ≡ word-at (s .words) j b
+
+-- an object of unit number i leaves the words of other units as they are, but for calls. Wherever it is placed: if its wants leave word b
+-- of unit j, which is another, then so does a call of what it offers, when it returns. In memory that word lies b behind the words of the units before j
+abbrev pub Leaves-others-alone : Type 0
+Leaves-others-alone = (u : SourceUnit) (o : Object) → Object-of u o →
+    (code shape : List ℕ) (i c : ℕ) (ps : List ℕ) (d : ℕ) (x : Imports) → Placed u o code shape i c ps → Wants-do u code shape d ps x →
+    (j b : ℕ) → j ≢ i → b < getD shape j 0 → Wants-leave x j b →
+    (p k a : ℕ) → offered p k (o .offers) ≡ Some a →
+    (site : CallSite) (room : ℕ) (vs : List ℕ) (s : State) (m : Machine) → length vs ≡ k → s .left ≤ d → Entered shape (c + a) site room vs s m →
+    (v : ℕ) (s′ : State) → run-unit (suc d) u i x p room vs s ≡ value v s′ →
+    (n : ℕ) × Returned shape site v s′ m (steps n code m) × (at (steps n code m) (total (take j shape) + b) ≡ at m (total (take j shape) + b))
