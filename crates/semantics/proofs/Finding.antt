@@ -35,6 +35,13 @@ nth-matched (more h hs) (suc i) = nth-matched hs i
 pub object-at : {us : List SourceUnit} {os : List Object} → Objects-of us os → (i : ℕ) (u : SourceUnit) (o : Object) → nth us i ≡ Some u → nth os i ≡ Some o → Object-of u o
 object-at hs i u o e f = rw (e, f) at (nth-matched hs i)
 
+matched-unit : (x : Option SourceUnit) (o : Object) → Matched x (Some o) → (u : SourceUnit) × (x ≡ Some u)
+matched-unit None o h = absurd h
+matched-unit (Some u) o h = (u, refl)
+
+pub unit-at : {us : List SourceUnit} {os : List Object} → Objects-of us os → (i : ℕ) (o : Object) → nth os i ≡ Some o → (u : SourceUnit) × (nth us i ≡ Some u)
+unit-at {us} hs i o e = matched-unit (nth us i) o (rw e at (nth-matched hs i))
+
 -- the object with a name is found where the unit with that name is
 named-first : (b : Bool) (o : Object) (os : List Object) (c w : ℕ) (x : Option Laid) (y : Option ℕ) → x ≡ (y >>= λ j. mapped (laid os (c + length (o .code)) (w + o .words) j) (nth os j)) →
     cond b (Some (record { object = o; code-at = c; words-at = w })) x ≡ (cond b (Some 0) (mapped suc y) >>= λ j. mapped (laid (o ∷ os) c w j) (nth (o ∷ os) j))

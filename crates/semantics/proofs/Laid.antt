@@ -93,11 +93,12 @@ abbrev pub code-place : List Object → ℕ → ℕ
 code-place os i = 4 + total (take i (extents os))
 
 -- object number i stands fitted in the image, its wants being placed at ps
-pub image-at : (os : List Object) (image : List ℕ) (i : ℕ) (o : Object) → Image-of os image → nth os i ≡ Some o →
-    (ps : List ℕ) × (places (lay os 4 0) (o .wants) ≡ Some ps) ×
+abbrev pub In-image : List Object → List ℕ → ℕ → Object → Type 0
+In-image os image i o = (ps : List ℕ) × (places (lay os 4 0) (o .wants) ≡ Some ps) ×
     (take (length (o .code)) (drop (code-place os i) image) ≡ fit-all (record { object = o; code-at = code-place os i; words-at = total (take i (widths os)) }) ps (o .fits) (o .code))
+
+pub image-at : (os : List Object) (image : List ℕ) (i : ℕ) (o : Object) → Image-of os image → nth os i ≡ Some o → In-image os image i o
 image-at os image i o h there = whole (codes-at (lay os 4 0) os 4 0 (h .1) i o (h .3) there)
   where
-    whole : Stands (lay os 4 0) os 4 0 (h .1) i o → (ps : List ℕ) × (places (lay os 4 0) (o .wants) ≡ Some ps) ×
-        (take (length (o .code)) (drop (code-place os i) image) ≡ fit-all (record { object = o; code-at = code-place os i; words-at = total (take i (widths os)) }) ps (o .fits) (o .code))
+    whole : Stands (lay os 4 0) os 4 0 (h .1) i o → In-image os image i o
     whole k = (k .0, k .1, rw (h .4, ← (drop-drop (total (take i (extents os))) 4 (8 ∷ h .0 ∷ 0 ∷ 1 ∷ h .1))) (rw (zero-add (total (take i (widths os)))) at (k .2)))

@@ -4,3 +4,4 @@ mod UnitRuns
 mod Steps
 mod Laid
 mod Finding
+mod Linked
