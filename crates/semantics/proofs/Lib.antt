@@ -5,3 +5,5 @@ mod Steps
 mod Laid
 mod Finding
 mod Linked
+mod Start
+mod Main

@@ -57,6 +57,6 @@ module _ (us : List SourceUnit) (os : List Object) (image : List ℕ) (objects :
           (wants-do d i u (st .0) here (ap (places (lay os 4 0)) (sym (h .wants)) ∙ st .1) before)
           p k a (h .offers-only p k a offer) offer)
 
-  all-run : (d e : ℕ) → e ≤ d → Offers-run us os image e
+  pub all-run : (d e : ℕ) → e ≤ d → Offers-run us os image e
   all-run zero e le = λ i u o here there p k a offer site room vs s m few left entered. absurd (omega arith)
   all-run (suc d) e le = ⊎-elim (λ lt. all-run d e (omega arith)) (λ ge. let same : e ≡ suc d = omega arith in rw same (one-deeper d (all-run d))) (cases-lt e (suc d))
