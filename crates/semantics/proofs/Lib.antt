@@ -7,3 +7,4 @@ mod Finding
 mod Linked
 mod Start
 mod Main
+mod Linkable
