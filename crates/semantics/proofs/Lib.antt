@@ -8,3 +8,5 @@ mod Linked
 mod Start
 mod Main
 mod Linkable
+mod Untouched
+mod Alone

@@ -54,16 +54,17 @@ Linked-runs = (us : List SourceUnit) (os : List Object) (image : List ℕ) → O
     (room calls : ℕ) (tape : List ℕ) → room < 2 ^ 32 → all-words os + room ≤ 2 ^ 32 →
     (n : ℕ) × (b : Behaviour) × (behaviour (source us room tape calls) ≡ Some b) × (machine-behaviour (steps n image (begin (all-words os) room tape calls)) ≡ Some b)
 
--- word b of unit j stays as it is in calls of wants that do what x says
-abbrev pub Wants-leave : Imports → ℕ → ℕ → Type 0
-Wants-leave x j b = (d c room : ℕ) (vs : List ℕ) (s : State) (v : ℕ) (s′ : State) → x d c room vs s ≡ value v s′ → word-at (s′ .words) j b ≡ word-at (s .words) j b
+-- calls of the unit's wants, which do what x says, leave word b of unit j as it is, up to d deep
+abbrev pub Wants-leave : SourceUnit → ℕ → Imports → ℕ → ℕ → Type 0
+Wants-leave u d x j b = (e n room : ℕ) (vs : List ℕ) (s : State) (v : ℕ) (s′ : State) → e ≤ d → n < length (u .wants) → x e n room vs s ≡ value v s′ →
+    word-at (s′ .words) j b ≡ word-at (s .words) j b
 
--- an object of unit number i leaves the words of other units as they are, but for calls. Wherever it is placed: if its wants leave word b
--- of unit j, which is another, then so does a call of what it offers, when it returns. In memory that word lies b behind the words of the units before j
+-- an object leaves the words of other units as they are, but for calls. Wherever it is placed, as number i: a call of what it offers that returns
+-- leaves word b of unit j, which is another, as long as calls of its wants do. In memory that word lies b behind the words of the units before j
 abbrev pub Leaves-others-alone : Type 0
 Leaves-others-alone = (u : SourceUnit) (o : Object) → Object-of u o →
     (code shape : List ℕ) (i c : ℕ) (ps : List ℕ) (d : ℕ) (x : Imports) → Placed u o code shape i c ps → Wants-do u code shape d ps x →
-    (j b : ℕ) → j ≢ i → b < getD shape j 0 → Wants-leave x j b →
+    (j b : ℕ) → j ≢ i → b < getD shape j 0 → Wants-leave u d x j b →
     (p k a : ℕ) → offered p k (o .offers) ≡ Some a →
     (site : CallSite) (room : ℕ) (vs : List ℕ) (s : State) (m : Machine) → length vs ≡ k → s .left ≤ d → Entered shape (c + a) site room vs s m →
     (v : ℕ) (s′ : State) → run-unit (suc d) u i x p room vs s ≡ value v s′ →
