@@ -1,12 +1,16 @@
 mod Cases
-mod Options
-mod UnitRuns
-mod Steps
-mod Laid
-mod Finding
-mod Linked
-mod Start
-mod Main
-mod Linkable
-mod Untouched
-mod Alone
+pub mod Continuations
+pub mod Lookups
+pub mod NotBad
+pub mod Grows
+pub mod Options
+pub mod UnitRuns
+pub mod Steps
+pub mod Laid
+pub mod Finding
+pub mod Linked
+pub mod Start
+pub mod Main
+pub mod Linkable
+pub mod Untouched
+pub mod Alone
