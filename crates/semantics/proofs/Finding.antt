@@ -9,6 +9,7 @@ use Rattle.std.specs.declared.option.Option.{Option}
 use Rattle.std.specs.declared.option.Option.the-variants.{Some, None}
 use Rattle.std.specs.Options.{isSome, mapped}
 use Rattle.std.specs.Finite.{nth}
+use Rattle.std.proofs.iter.runs.Lists.{none-some, same-some}
 use Rattle.rows.specs.Options.{_>>=_}
 use Rattle.rows.specs.Units.{Want, SourceUnit}
 use Rattle.rows.specs.Objects.{Object}
@@ -17,7 +18,8 @@ use Rattle.semantics.specs.Runs.{position}
 use Rattle.semantics.specs.Whole.{offers-proc, unit-named, meets, wants-met}
 use Rattle.semantics.specs.Relation.{Object-of}
 use Rattle.semantics.specs.Theorems.{Objects-of, none, more, Says}
-use Rattle.semantics.proofs.Options.{none-some, some-same, bind-some, mapped-some}
+use Rattle.semantics.proofs.Options.{mapped-some}
+use Rattle.semantics.proofs.Lookups.{both-found}
 use Rattle.semantics.proofs.Laid.{laid, laid-first, laid-later, code-place}
 
 -- a unit and an object, each of which may be missing, belong together
@@ -60,7 +62,7 @@ abbrev Named : List SourceUnit → List Object → ℕ → Laid → Type 0
 Named us os n l = (j : ℕ) × (o : Object) × (position n us ≡ Some j) × (nth os j ≡ Some o) × (laid os 4 0 j o ≡ l)
 
 named-found : {us : List SourceUnit} {os : List Object} → Objects-of us os → (n : ℕ) (l : Laid) → named n (lay os 4 0) ≡ Some l → Named us os n l
-named-found {us} {os} hs n l e = at-position (bind-some (position n us) _ l (sym (named-is hs n 4 0) ∙ e))
+named-found {us} {os} hs n l e = at-position (both-found (position n us) _ l (sym (named-is hs n 4 0) ∙ e))
   where
     at-position : (j : ℕ) × (position n us ≡ Some j) × (mapped (laid os 4 0 j) (nth os j) ≡ Some l) → Named us os n l
     at-position h = let o = mapped-some (nth os (h .0)) (laid os 4 0 (h .0)) l (h .2) in (h .0, o .0, h .1, o .1, o .2)
@@ -70,12 +72,12 @@ abbrev pub Found : List SourceUnit → List Object → Want → ℕ → Type 0
 Found us os w a = (j : ℕ) × (o : Object) × (b : ℕ) × (position (w .unit) us ≡ Some j) × (nth os j ≡ Some o) × (offered (w .proc) (w .args) (o .offers) ≡ Some b) × (a ≡ code-place os j + b)
 
 pub place-found : {us : List SourceUnit} {os : List Object} → Objects-of us os → (w : Want) (a : ℕ) → place (lay os 4 0) w ≡ Some a → Found us os w a
-place-found {us} {os} hs w a e = at-name (bind-some (named (w .unit) (lay os 4 0)) _ a e)
+place-found {us} {os} hs w a e = at-name (both-found (named (w .unit) (lay os 4 0)) _ a e)
   where
     at-offer : (l : Laid) → Named us os (w .unit) l → (b : ℕ) × (offered (w .proc) (w .args) (l .object .offers) ≡ Some b) × (Some (l .code-at + b) ≡ Some a) → Found us os w a
-    at-offer l h k = (h .0, h .1, k .0, h .2, h .3, rw (← (h .4)) at (k .1), sym (rw (← (h .4)) at (some-same (k .2))))
+    at-offer l h k = (h .0, h .1, k .0, h .2, h .3, rw (← (h .4)) at (k .1), sym (rw (← (h .4)) at (same-some _ _ (k .2))))
     at-name : (l : Laid) × (named (w .unit) (lay os 4 0) ≡ Some l) × ((offered (w .proc) (w .args) (l .object .offers) >>= λ b. Some (l .code-at + b)) ≡ Some a) → Found us os w a
-    at-name h = at-offer (h .0) (named-found hs (w .unit) (h .0) (h .1)) (bind-some (offered (w .proc) (w .args) (h .0 .object .offers)) _ a (h .2))
+    at-name h = at-offer (h .0) (named-found hs (w .unit) (h .0) (h .1)) (both-found (offered (w .proc) (w .args) (h .0 .object .offers)) _ a (h .2))
 
 -- places of one want and more
 abbrev Splits : List Laid → Want → List Want → List ℕ → Type 0
@@ -83,9 +85,9 @@ Splits ls w ws ps = (p : ℕ) × (rest : List ℕ) × (place ls w ≡ Some p) ×
 
 splits : (ls : List Laid) (w : Want) (ws : List Want) (ps : List ℕ) → places ls (w ∷ ws) ≡ Some ps → Splits ls w ws ps
 splits ls w ws ps e =
-    let p = bind-some (place ls w) _ ps e in
-    let r = bind-some (places ls ws) _ ps (p .2) in
-    (p .0, r .0, p .1, r .1, sym (some-same (r .2)))
+    let p = both-found (place ls w) _ ps e in
+    let r = both-found (places ls ws) _ ps (p .2) in
+    (p .0, r .0, p .1, r .1, sym (same-some _ _ (r .2)))
 
 -- each want's place stands at its number
 pub places-at : (ls : List Laid) (ws : List Want) (ps : List ℕ) (n : ℕ) (w : Want) → places ls ws ≡ Some ps → nth ws n ≡ Some w → place ls w ≡ Some (getD ps n 0)
@@ -93,7 +95,7 @@ places-at ls [] ps n w e there = absurd (none-some w there)
 places-at ls (v ∷ ws) ps zero w e there = first (splits ls v ws ps e)
   where
     first : Splits ls v ws ps → place ls w ≡ Some (getD ps 0 0)
-    first h = rw (h .4, ← (some-same there)) (h .2)
+    first h = rw (h .4, ← (same-some _ _ there)) (h .2)
 places-at ls (v ∷ ws) ps (suc n) w e there =
     let h = splits ls v ws ps e in
     later h (places-at ls ws (h .1) n w (h .3) there)

@@ -8,10 +8,11 @@ use lib.Seq.{take-at, drop-append-add, drop-drop}
 use Rattle.std.specs.declared.option.Option.{Option}
 use Rattle.std.specs.declared.option.Option.the-variants.{Some, None}
 use Rattle.std.specs.Finite.{nth}
+use Rattle.std.proofs.iter.runs.Lists.{none-some, same-some}
 use Rattle.rows.specs.Objects.{Fit, Object}
 use Rattle.linker.specs.Linking.{Laid, lay, places, fitted, fit-all, codes, entry, link, all-words}
 use Rattle.semantics.specs.Relation.{total}
-use Rattle.semantics.proofs.Options.{none-some, some-same, bind-some}
+use Rattle.semantics.proofs.Lookups.{both-found}
 
 -- how many code words each object has, and how many words its unit has
 abbrev pub extents : List Object → List ℕ
@@ -28,7 +29,7 @@ total-widths (o ∷ os) = ap (λ n. o .words + n) (total-widths os)
 
 pub nth-widths : (os : List Object) (i : ℕ) (o : Object) → nth os i ≡ Some o → nth (widths os) i ≡ Some (o .words)
 nth-widths [] i o e = absurd (none-some o e)
-nth-widths (q ∷ os) zero o e = ap (λ r. Some (r .words)) (some-same e)
+nth-widths (q ∷ os) zero o e = ap (λ r. Some (r .words)) (same-some _ _ e)
 nth-widths (q ∷ os) (suc i) o e = nth-widths os i o e
 
 -- object number i as it lies when the first lies at c and its words at w
@@ -58,9 +59,9 @@ Splits all l ls code = (ps rest : List ℕ) × (places all (l .object .wants) �
 
 splits : (all : List Laid) (l : Laid) (ls : List Laid) (code : List ℕ) → codes all (l ∷ ls) ≡ Some code → Splits all l ls code
 splits all l ls code e =
-    let p = bind-some (places all (l .object .wants)) _ code e in
-    let r = bind-some (codes all ls) _ code (p .2) in
-    (p .0, r .0, p .1, r .1, sym (some-same (r .2)))
+    let p = both-found (places all (l .object .wants)) _ code e in
+    let r = both-found (codes all ls) _ code (p .2) in
+    (p .0, r .0, p .1, r .1, sym (same-some _ _ (r .2)))
 
 drop-behind : (xs ys : List ℕ) (k n : ℕ) → length xs ≡ k → drop (k + n) (xs ++ ys) ≡ drop n ys
 drop-behind xs ys k n e = rw (← e) (drop-append-add xs ys n)
@@ -70,7 +71,7 @@ codes-at all [] c w code i o e there = absurd (none-some o there)
 codes-at all (q ∷ os) c w code zero o e there = first (splits all (laid-at q c w) (lay os (c + length (q .code)) (w + q .words)) code e)
   where
     first : Splits all (laid-at q c w) (lay os (c + length (q .code)) (w + q .words)) code → Stands all (q ∷ os) c w code 0 o
-    first h = rw (← (some-same there)) (h .0, h .2, rw (h .4, laid-first (q ∷ os) c w q) (take-at _ (h .1) _ (length-fit-all (laid-at q c w) (h .0) (q .fits) (q .code))))
+    first h = rw (← (same-some _ _ there)) (h .0, h .2, rw (h .4, laid-first (q ∷ os) c w q) (take-at _ (h .1) _ (length-fit-all (laid-at q c w) (h .0) (q .fits) (q .code))))
 codes-at all (q ∷ os) c w code (suc i) o e there =
     let h = splits all (laid-at q c w) (lay os (c + length (q .code)) (w + q .words)) code e in
     later h (codes-at all os (c + length (q .code)) (w + q .words) (h .1) i o (h .3) there)
@@ -84,9 +85,9 @@ Image-of os image = (e : ℕ) × (code : List ℕ) × (entry (lay os 4 0) ≡ So
 
 pub image-of : (os : List Object) (image : List ℕ) → link os ≡ Some image → Image-of os image
 image-of os image l =
-    let h = bind-some (entry (lay os 4 0)) _ image l in
-    let k = bind-some (codes (lay os 4 0) (lay os 4 0)) _ image (h .2) in
-    (h .0, k .0, h .1, k .1, sym (some-same (k .2)))
+    let h = both-found (entry (lay os 4 0)) _ image l in
+    let k = both-found (codes (lay os 4 0) (lay os 4 0)) _ image (h .2) in
+    (h .0, k .0, h .1, k .1, sym (same-some _ _ (k .2)))
 
 -- where the code of object number i begins in an image
 abbrev pub code-place : List Object → ℕ → ℕ

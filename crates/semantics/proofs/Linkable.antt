@@ -18,24 +18,9 @@ use Rattle.semantics.specs.Runs.{position}
 use Rattle.semantics.specs.Whole.{among, names, distinct, offers-proc, unit-named, meets, wants-met, all-met, starts}
 use Rattle.semantics.specs.Relation.{Object-of}
 use Rattle.semantics.specs.Theorems.{Objects-of, none, more, Says, Says-the-same, Links, Links-only}
-use Rattle.semantics.proofs.Options.{some-found, is-some}
+use Rattle.semantics.proofs.Options.{some-found, is-some, is-some-then, is-some-and, same-test}
 use Rattle.semantics.proofs.Laid.{laid}
 use Rattle.semantics.proofs.Finding.{Matched, nth-matched, named-is}
-
-is-some-then : {A B : Type 0} (x : Option A) (f : A → B) → isSome (x >>= λ a. Some (f a)) ≡ isSome x
-is-some-then None f = refl
-is-some-then (Some a) f = refl
-
-is-some-and : {A B C : Type 0} (x : Option A) (y : Option B) (f : A → B → C) → isSome (x >>= λ a. y >>= λ b. Some (f a b)) ≡ (isSome x && isSome y)
-is-some-and None y f = refl
-is-some-and (Some a) y f = is-some-then y (f a)
-
--- a test that finds something exactly if another passes
-same-test : {A : Type 0} (x : Option A) (b : Bool) → ((a : A) → x ≡ Some a → T b) → (T b → (a : A) × (x ≡ Some a)) → isSome x ≡ b
-same-test None true f g = ap isSome (g tt .1)
-same-test None false f g = refl
-same-test (Some a) true f g = refl
-same-test (Some a) false f g = absurd (f a refl)
 
 pub says-the-same : Says-the-same
 says-the-same u o h = record { name = h .name; words = h .words; wants = h .wants; offers = λ p k. same-test (offered p k (o .offers)) (offers-proc u p k) (h .offers-only p k) (h .offers p k) }

@@ -9,13 +9,13 @@ use Rattle.std.specs.declared.option.Option.{Option}
 use Rattle.std.specs.declared.option.Option.the-variants.{Some, None}
 use Rattle.std.specs.Finite.{nth}
 use Rattle.std.proofs.shelf.Tests.{lt-ltb, cond-true, cases-lt}
+use Rattle.std.proofs.iter.runs.Lists.{nth-within}
 use Rattle.rows.specs.Units.{Want, SourceUnit}
 use Rattle.rows.specs.Objects.{Object}
 use Rattle.linker.specs.Linking.{offered, link, lay, places}
 use Rattle.semantics.specs.Runs.{State, Result, Target, through, target, position, run}
 use Rattle.semantics.specs.Relation.{total, Outcome, Simulates, Placed, Wants-do, Object-of, run-unit}
 use Rattle.semantics.specs.Theorems.{Objects-of}
-use Rattle.semantics.proofs.Options.{nth-inside}
 use Rattle.semantics.proofs.UnitRuns.{imports, run-is-run-unit}
 use Rattle.semantics.proofs.Laid.{widths, nth-widths, code-place, Image-of, In-image, image-at}
 use Rattle.semantics.proofs.Finding.{object-at, unit-at, Found, place-found, places-at}
@@ -28,7 +28,7 @@ Offers-run us os image d = (i : ℕ) (u : SourceUnit) (o : Object) → nth us i 
 -- want number n of unit number i is met by a procedure of the program
 target-of-want : (us : List SourceUnit) (i : ℕ) (u : SourceUnit) (n : ℕ) (w : Want) (j : ℕ) → nth us i ≡ Some u → nth (u .wants) n ≡ Some w → position (w .unit) us ≡ Some j →
     target us i n ≡ Some (record { unit = j; proc = w .proc })
-target-of-want us i u n w j here there found = rw (here, lt-ltb n (length (u .wants)) (nth-inside (u .wants) n w there), there, found)
+target-of-want us i u n w j here there found = rw (here, lt-ltb n (length (u .wants)) (nth-within (u .wants) n w there), there, found)
 
 -- calls that do what f says do what g says, if that is the same
 simulates-same : (code shape : List ℕ) (d a k : ℕ) (f g : ℕ → List ℕ → State → Result) → ((room : ℕ) (vs : List ℕ) (s : State) → f room vs s ≡ g room vs s) → Simulates code shape d a k f → Simulates code shape d a k g

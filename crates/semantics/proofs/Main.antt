@@ -6,16 +6,18 @@ use native.Mathlib.Omega.{arith}
 use lib.ListN.{length}
 use Rattle.std.specs.declared.option.Option.{Option}
 use Rattle.std.specs.declared.option.Option.the-variants.{Some, None}
+use Rattle.std.proofs.iter.runs.Lists.{none-some, same-some}
 use Rattle.rows.specs.Units.{SourceUnit}
 use Rattle.rows.specs.Objects.{Object}
 use Rattle.machine.specs.Machine.{begin}
 use Rattle.machine.specs.Instructions.{steps}
 use Rattle.linker.specs.Linking.{offered, lay, entry, link, all-words}
 use Rattle.semantics.specs.Runs.{zeros, source}
-use Rattle.semantics.specs.Whole.{Fit-together, Behaviour, behaviour, machine-behaviour}
+use Rattle.semantics.specs.Whole.{Behaviour, behaviour, machine-behaviour}
 use Rattle.semantics.specs.Relation.{Object-of, Outcome}
 use Rattle.semantics.specs.Theorems.{Objects-of, none, more, Linked-runs}
-use Rattle.semantics.proofs.Options.{none-some, some-same, bind-some}
+use Rattle.semantics.proofs.Lookups.{both-found}
+use Rattle.semantics.proofs.NotBad.{ends}
 use Rattle.semantics.proofs.Laid.{widths, Image-of, image-of}
 use Rattle.semantics.proofs.Linked.{all-run}
 use Rattle.semantics.proofs.Start.{outermost, called, first-call, ends-so}
@@ -25,20 +27,16 @@ first-outcome : {us : List SourceUnit} {os : List Object} → Objects-of us os �
     (room calls : ℕ) (tape : List ℕ) → room < 2 ^ 32 → all-words os + room ≤ 2 ^ 32 →
     Outcome image (widths os) (outermost (all-words os)) calls (called (linked .0) (all-words os) room tape calls) (source us room tape calls)
 first-outcome none image linked short room calls tape small fits = absurd (none-some (linked .0) (linked .2))
-first-outcome (more {u} {o} {us} {os} h hs) image linked short room calls tape small fits = offers-it (bind-some (offered 0 0 (o .offers)) _ (linked .0) (linked .2))
+first-outcome (more {u} {o} {us} {os} h hs) image linked short room calls tape small fits = offers-it (both-found (offered 0 0 (o .offers)) _ (linked .0) (linked .2))
   where
     offers-it : (a : ℕ) × (offered 0 0 (o .offers) ≡ Some a) × (Some (4 + a) ≡ Some (linked .0)) →
         Outcome image (widths (o ∷ os)) (outermost (all-words (o ∷ os))) calls (called (linked .0) (all-words (o ∷ os)) room tape calls) (source (u ∷ us) room tape calls)
     offers-it k = all-run (u ∷ us) (o ∷ os) image (more h hs) linked short (suc calls) (suc calls) (omega arith) 0 u o refl refl 0 0 (k .0) (k .1)
         (outermost (all-words (o ∷ os))) room [] (record { words = zeros (u ∷ us); tape = tape; outs = []; left = calls }) (called (linked .0) (all-words (o ∷ os)) room tape calls)
-        refl (omega arith) (rw (some-same (k .2)) (first-call (more h hs) (linked .0) room tape calls small fits))
+        refl (omega arith) (rw (same-some _ _ (k .2)) (first-call (more h hs) (linked .0) room tape calls small fits))
 
--- units that fit together come to one of the three ends
-abbrev Ends : Type 0
-Ends = (us : List SourceUnit) (room calls : ℕ) (tape : List ℕ) → Fit-together us → (b : Behaviour) × (behaviour (source us room tape calls) ≡ Some b)
-
-pub linked-runs : Ends → Linked-runs
-linked-runs ends us os image objects fit link short room calls tape small fits = shows (image-of os image link) (ends us room calls tape fit)
+pub linked-runs : Linked-runs
+linked-runs us os image objects fit link short room calls tape small fits = shows (image-of os image link) (ends us room calls tape fit)
   where
     shows : Image-of os image → (b : Behaviour) × (behaviour (source us room tape calls) ≡ Some b) →
         (n : ℕ) × (b : Behaviour) × (behaviour (source us room tape calls) ≡ Some b) × (machine-behaviour (steps n image (begin (all-words os) room tape calls)) ≡ Some b)

@@ -10,6 +10,7 @@ use lib.Seq.{take-set-le, getD-set-same, getD-set-other}
 use Rattle.std.specs.declared.option.Option.{Option}
 use Rattle.std.specs.declared.option.Option.the-variants.{Some, None}
 use Rattle.std.proofs.shelf.Lists.{take-replicate}
+use Rattle.std.proofs.iter.runs.Lists.{none-some, same-some}
 use Rattle.rows.specs.Units.{SourceUnit}
 use Rattle.rows.specs.Objects.{Object}
 use Rattle.machine.specs.Machine.{Machine, begin, at}
@@ -19,7 +20,6 @@ use Rattle.semantics.specs.Runs.{State, Result, value, no-room, no-calls, bad,
 use Rattle.semantics.specs.Whole.{Behaviour, done, without-room, without-calls, behaviour, machine-behaviour, halted-behaviour}
 use Rattle.semantics.specs.Relation.{flat, sizes, total, Represents, CallSite, Entered, Returned, Outcome}
 use Rattle.semantics.specs.Theorems.{Objects-of, none, more}
-use Rattle.semantics.proofs.Options.{none-some, some-same}
 use Rattle.semantics.proofs.Steps.{steps-add}
 use Rattle.semantics.proofs.Laid.{widths, total-widths}
 

@@ -7,10 +7,10 @@ use native.Mathlib.Nat.{zero-add, suc-add, add-comm}
 
 use Rattle.std.specs.declared.option.Option.{Option}
 use Rattle.std.specs.declared.option.Option.the-variants.{Some, None}
+use Rattle.std.proofs.iter.runs.Lists.{none-some, same-some}
 use Rattle.machine.specs.Machine.{Machine}
 use Rattle.machine.specs.Instructions.{step, steps}
 use Rattle.semantics.specs.Whole.{Behaviour, halted-behaviour, machine-behaviour}
-use Rattle.semantics.proofs.Options.{none-some, some-same}
 
 pub steps-add : (a b : ℕ) (code : List ℕ) (m : Machine) → steps (a + b) code m ≡ steps b code (steps a code m)
 steps-add zero b code m = rw zero-add
@@ -35,4 +35,4 @@ later a c code m b e =
 
 -- so it ends in one way
 pub ends-once : (code : List ℕ) (m : Machine) (n n′ : ℕ) (b b′ : Behaviour) → machine-behaviour (steps n code m) ≡ Some b → machine-behaviour (steps n′ code m) ≡ Some b′ → b ≡ b′
-ends-once code m n n′ b b′ e e′ = some-same (sym (rw (add-comm n n′) at (later n n′ code m b e)) ∙ later n′ n code m b′ e′)
+ends-once code m n n′ b b′ e e′ = same-some _ _ (sym (rw (add-comm n n′) at (later n n′ code m b e)) ∙ later n′ n code m b′ e′)
