@@ -76,6 +76,7 @@ place-found {us} {os} hs w a e = at-name (both-found (named (w .unit) (lay os 4 
   where
     at-offer : (l : Laid) → Named us os (w .unit) l → (b : ℕ) × (offered (w .proc) (w .args) (l .object .offers) ≡ Some b) × (Some (l .code-at + b) ≡ Some a) → Found us os w a
     at-offer l h k = (h .0, h .1, k .0, h .2, h .3, rw (← (h .4)) at (k .1), sym (rw (← (h .4)) at (same-some _ _ (k .2))))
+
     at-name : (l : Laid) × (named (w .unit) (lay os 4 0) ≡ Some l) × ((offered (w .proc) (w .args) (l .object .offers) >>= λ b. Some (l .code-at + b)) ≡ Some a) → Found us os w a
     at-name h = at-offer (h .0) (named-found hs (w .unit) (h .0) (h .1)) (both-found (offered (w .proc) (w .args) (h .0 .object .offers)) _ a (h .2))
 

@@ -14,3 +14,4 @@ pub mod Main
 pub mod Linkable
 pub mod Untouched
 pub mod Alone
+pub mod Promised

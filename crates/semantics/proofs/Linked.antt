@@ -35,7 +35,6 @@ simulates-same : (code shape : List ℕ) (d a k : ℕ) (f g : ℕ → List ℕ �
 simulates-same code shape d a k f g same h site room vs s m few left entered = subst (Outcome code shape site (s .left) m) (same room vs s) (h site room vs s m few left entered)
 
 module _ (us : List SourceUnit) (os : List Object) (image : List ℕ) (objects : Objects-of us os) (linked : Image-of os image) (short : length image < 2 ^ 32) where
-
   -- a want is met by an offer, whose calls do what they should
   wants-do : (d i : ℕ) (u : SourceUnit) (ps : List ℕ) → nth us i ≡ Some u → places (lay os 4 0) (u .wants) ≡ Some ps → ((e : ℕ) → e ≤ d → Offers-run us os image e) → Wants-do u image (widths os) d ps (imports us i)
   wants-do d i u ps here placed before e n w le there = met (place-found objects w (getD ps n 0) (places-at (lay os 4 0) (u .wants) ps n w placed there))

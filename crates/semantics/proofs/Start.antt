@@ -83,8 +83,11 @@ first-call {us} {os} hs e room tape calls small fits = record {
 shown : (e : ℕ) (code shape : List ℕ) (w room : ℕ) (tape : List ℕ) (calls : ℕ) (r : Result) (b : Behaviour) → behaviour r ≡ Some b →
     Outcome (8 ∷ e ∷ 0 ∷ 1 ∷ code) shape (outermost w) calls (called e w room tape calls) r →
     (n : ℕ) × (machine-behaviour (steps n (8 ∷ e ∷ 0 ∷ 1 ∷ code) (begin w room tape calls)) ≡ Some b)
-shown e code shape w room tape calls (value v s) b is h = (suc (h .0 + 1), rw (steps-add (h .0) 1 (8 ∷ e ∷ 0 ∷ 1 ∷ code) (called e w room tape calls))
-    (halts-done e code (steps (h .0) (8 ∷ e ∷ 0 ∷ 1 ∷ code) (called e w room tape calls)) (h .2 .pc) (h .2 .represents .running) ∙ ap (λ outs. Some (done outs)) (h .2 .represents .outs) ∙ is))
+shown e code shape w room tape calls (value v s) b is h = (
+  suc (h .0 + 1),
+  rw (steps-add (h .0) 1 (8 ∷ e ∷ 0 ∷ 1 ∷ code) (called e w room tape calls))
+      (halts-done e code (steps (h .0) (8 ∷ e ∷ 0 ∷ 1 ∷ code) (called e w room tape calls)) (h .2 .pc) (h .2 .represents .running) ∙ ap (λ outs. Some (done outs)) (h .2 .represents .outs) ∙ is),
+)
 shown e code shape w room tape calls (no-room s) b is h = (suc (h .0), rw (h .1, h .2) is)
 shown e code shape w room tape calls (no-calls s) b is h = (suc (h .0), rw (h .1, h .2) is)
 shown e code shape w room tape calls bad b is h = absurd (none-some b is)

@@ -1,10 +1,8 @@
 -- Runs of the machine: steps after steps, and that a machine which has halted stays as it is.
 use mathlib.Core.Path.{_≡_, refl, sym, _∙_}
 use mathlib.Core.List.{List}
-
 use Prim.Native.Nat.{ℕ, zero, suc, _+_}
 use native.Mathlib.Nat.{zero-add, suc-add, add-comm}
-
 use Rattle.std.specs.declared.option.Option.{Option}
 use Rattle.std.specs.declared.option.Option.the-variants.{Some, None}
 use Rattle.std.proofs.iter.runs.Lists.{none-some, same-some}

@@ -33,6 +33,7 @@ run-is-run-unit us i u there (suc d) p room vs s =
   where
     here : proc-at us (record { unit = i; proc = p }) ≡ nth (u .procs) p
     here = rw there
+
     callee : (free c : ℕ) (ws : List ℕ) (q : State) → run d us free (record { unit = i; proc = c - length (u .wants) }) ws q ≡ run-unit d u i (imports us i) (c - length (u .wants)) free ws q →
         through (target us i c) (λ n. run d us free n ws q) ≡ cond (ltb c (length (u .wants))) (imports us i d c free ws q) (run-unit d u i (imports us i) (c - length (u .wants)) free ws q)
     callee free c ws q e = rw there (want-or-own (ltb c (length (u .wants))) (nth (u .wants) c >>= wanted us) (record { unit = i; proc = c - length (u .wants) }) (λ n. run d us free n ws q) (run-unit d u i (imports us i) (c - length (u .wants)) free ws q) e)

@@ -69,3 +69,16 @@ Leaves-others-alone = (u : SourceUnit) (o : Object) → Object-of u o →
     (site : CallSite) (room : ℕ) (vs : List ℕ) (s : State) (m : Machine) → length vs ≡ k → s .left ≤ d → Entered shape (c + a) site room vs s m →
     (v : ℕ) (s′ : State) → run-unit (suc d) u i x p room vs s ≡ value v s′ →
     (n : ℕ) × Returned shape site v s′ m (steps n code m) × (at (steps n code m) (total (take j shape) + b) ≡ at m (total (take j shape) + b))
+
+-- a machine on its code ends in one way only, whenever one looks
+abbrev pub Ends-once : Type 0
+Ends-once = (code : List ℕ) (m : Machine) (n n′ : ℕ) (b b′ : Behaviour) → machine-behaviour (steps n code m) ≡ Some b → machine-behaviour (steps n′ code m) ≡ Some b′ → b ≡ b′
+
+-- what is promised of objects and of what they are linked to
+pub record Demands : Type 0 where
+  pub says : Says-the-same
+  pub links : Links
+  pub links-only : Links-only
+  pub runs : Linked-runs
+  pub ends-once : Ends-once
+  pub leaves-others-alone : Leaves-others-alone
