@@ -1,7 +1,6 @@
 -- A unit's object leaves the words of other units as they are in memory, but for calls.
 use mathlib.Core.Path.{_≡_, refl, sym, ap, _∙_, subst}
-use mathlib.Core.List.{List, [], _∷_, _++_}
-use mathlib.Core.Logic.{_≢_}
+use mathlib.Core.List.{List, [], _∷_}
 use Prim.Native.Nat.{ℕ, zero, suc, _+_, _<_}
 use native.Mathlib.Nat.{add-assoc, zero-add}
 use native.Mathlib.Omega.{arith}
@@ -11,7 +10,7 @@ use Rattle.rows.specs.Units.{SourceUnit}
 use Rattle.machine.specs.Machine.{Machine, at}
 use Rattle.machine.specs.Instructions.{steps}
 use Rattle.semantics.specs.Runs.{State, Result, value, no-room, no-calls, bad, word-at}
-use Rattle.semantics.specs.Relation.{flat, sizes, total, Imports, run-unit, Represents, CallSite, Outcome, Returned}
+use Rattle.semantics.specs.Relation.{flat, sizes, total, Imports, Represents, Outcome, Returned}
 use Rattle.semantics.specs.Theorems.{Wants-leave, Leaves-others-alone}
 use Rattle.semantics.proofs.Untouched.{Has, Keeps, unit-keeps}
 

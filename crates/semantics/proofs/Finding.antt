@@ -1,13 +1,13 @@
 -- What the linker finds for a want is what the program's units have for it.
-use mathlib.Core.Path.{_≡_, refl, sym, ap, ap₂, _∙_, fun-ext}
-use mathlib.Core.Bool.{Bool, true, false, cond, _&&_}
+use mathlib.Core.Path.{_≡_, refl, sym, ap, _∙_, fun-ext}
+use mathlib.Core.Bool.{Bool, true, false, cond}
 use mathlib.Core.List.{List, [], _∷_}
 use Prim.Native.Nat.{ℕ, zero, suc, _+_}
 use lib.ListN.{length, getD}
 use lib.Dec.{eqb}
 use Rattle.std.specs.declared.option.Option.{Option}
 use Rattle.std.specs.declared.option.Option.the-variants.{Some, None}
-use Rattle.std.specs.Options.{isSome, mapped}
+use Rattle.std.specs.Options.{mapped}
 use Rattle.std.specs.Finite.{nth}
 use Rattle.std.proofs.iter.runs.Lists.{none-some, same-some}
 use Rattle.rows.specs.Options.{_>>=_}
@@ -15,9 +15,8 @@ use Rattle.rows.specs.Units.{Want, SourceUnit}
 use Rattle.rows.specs.Objects.{Object}
 use Rattle.linker.specs.Linking.{Laid, lay, named, offered, place, places}
 use Rattle.semantics.specs.Runs.{position}
-use Rattle.semantics.specs.Whole.{offers-proc, unit-named, meets, wants-met}
 use Rattle.semantics.specs.Relation.{Object-of}
-use Rattle.semantics.specs.Theorems.{Objects-of, none, more, Says}
+use Rattle.semantics.specs.Theorems.{Objects-of, none, more}
 use Rattle.semantics.proofs.Options.{mapped-some}
 use Rattle.semantics.proofs.Lookups.{both-found}
 use Rattle.semantics.proofs.Laid.{laid, laid-first, laid-later, code-place}

@@ -5,12 +5,11 @@ use Prim.Native.Nat.{ℕ, zero, suc, _+_}
 use native.Mathlib.Nat.{add-assoc, add-zero, zero-add}
 use lib.ListN.{length, take, drop, length-set}
 use lib.Seq.{take-at, drop-append-add, drop-drop}
-use Rattle.std.specs.declared.option.Option.{Option}
-use Rattle.std.specs.declared.option.Option.the-variants.{Some, None}
+use Rattle.std.specs.declared.option.Option.the-variants.{Some}
 use Rattle.std.specs.Finite.{nth}
 use Rattle.std.proofs.iter.runs.Lists.{none-some, same-some}
 use Rattle.rows.specs.Objects.{Fit, Object}
-use Rattle.linker.specs.Linking.{Laid, lay, places, fitted, fit-all, codes, entry, link, all-words}
+use Rattle.linker.specs.Linking.{Laid, lay, places, fit-all, codes, entry, link, all-words}
 use Rattle.semantics.specs.Relation.{total}
 use Rattle.semantics.proofs.Lookups.{both-found}
 

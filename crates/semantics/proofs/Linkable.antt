@@ -13,11 +13,10 @@ use Rattle.std.proofs.shelf.Tests.{false≢true, not-false, and-parts}
 use Rattle.rows.specs.Options.{_>>=_}
 use Rattle.rows.specs.Units.{Want, SourceUnit}
 use Rattle.rows.specs.Objects.{Object}
-use Rattle.linker.specs.Linking.{Laid, lay, named, offered, place, places, codes, entry, link, has-name, twice}
+use Rattle.linker.specs.Linking.{lay, offered, place, places, codes, entry, link, has-name, twice}
 use Rattle.semantics.specs.Runs.{position}
 use Rattle.semantics.specs.Whole.{among, names, distinct, offers-proc, unit-named, meets, wants-met, all-met, starts}
-use Rattle.semantics.specs.Relation.{Object-of}
-use Rattle.semantics.specs.Theorems.{Objects-of, none, more, Says, Says-the-same, Links, Links-only}
+use Rattle.semantics.specs.Theorems.{Objects-of, none, more, Says-the-same, Links, Links-only}
 use Rattle.semantics.proofs.Options.{some-found, is-some, is-some-then, is-some-and, same-test}
 use Rattle.semantics.proofs.Laid.{laid}
 use Rattle.semantics.proofs.Finding.{Matched, nth-matched, named-is}

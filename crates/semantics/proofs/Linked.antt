@@ -1,20 +1,19 @@
 -- In a linked image, calls of what objects offer do what the program's procedures do: by the number of calls left.
-use mathlib.Core.Path.{_≡_, refl, sym, ap, _∙_, subst}
-use mathlib.Core.Logic.{_⊎_, inl, inr, ⊎-elim}
+use mathlib.Core.Path.{_≡_, sym, ap, _∙_, subst}
+use mathlib.Core.Logic.{⊎-elim}
 use mathlib.Core.List.{List}
 use Prim.Native.Nat.{ℕ, zero, suc, _+_, _^_, _<_, _≤_}
 use native.Mathlib.Omega.{arith}
-use lib.ListN.{length, getD, take}
-use Rattle.std.specs.declared.option.Option.{Option}
-use Rattle.std.specs.declared.option.Option.the-variants.{Some, None}
+use lib.ListN.{length, getD}
+use Rattle.std.specs.declared.option.Option.the-variants.{Some}
 use Rattle.std.specs.Finite.{nth}
-use Rattle.std.proofs.shelf.Tests.{lt-ltb, cond-true, cases-lt}
+use Rattle.std.proofs.shelf.Tests.{lt-ltb, cases-lt}
 use Rattle.std.proofs.iter.runs.Lists.{nth-within}
 use Rattle.rows.specs.Units.{Want, SourceUnit}
 use Rattle.rows.specs.Objects.{Object}
-use Rattle.linker.specs.Linking.{offered, link, lay, places}
-use Rattle.semantics.specs.Runs.{State, Result, Target, through, target, position, run}
-use Rattle.semantics.specs.Relation.{total, Outcome, Simulates, Placed, Wants-do, Object-of, run-unit}
+use Rattle.linker.specs.Linking.{offered, lay, places}
+use Rattle.semantics.specs.Runs.{State, Result, through, target, position, run}
+use Rattle.semantics.specs.Relation.{Outcome, Simulates, Wants-do, Object-of, run-unit}
 use Rattle.semantics.specs.Theorems.{Objects-of}
 use Rattle.semantics.proofs.UnitRuns.{imports, run-is-run-unit}
 use Rattle.semantics.proofs.Laid.{widths, nth-widths, code-place, Image-of, In-image, image-at}

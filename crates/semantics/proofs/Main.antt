@@ -1,20 +1,19 @@
 -- The image that objects of units are linked to does what the units do.
-use mathlib.Core.Path.{_≡_, refl, sym, ap, subst}
+use mathlib.Core.Path.{_≡_, refl}
 use mathlib.Core.List.{List, [], _∷_}
-use Prim.Native.Nat.{ℕ, zero, suc, _+_, _^_, _<_, _≤_}
+use Prim.Native.Nat.{ℕ, suc, _+_, _^_, _<_, _≤_}
 use native.Mathlib.Omega.{arith}
 use lib.ListN.{length}
-use Rattle.std.specs.declared.option.Option.{Option}
-use Rattle.std.specs.declared.option.Option.the-variants.{Some, None}
+use Rattle.std.specs.declared.option.Option.the-variants.{Some}
 use Rattle.std.proofs.iter.runs.Lists.{none-some, same-some}
 use Rattle.rows.specs.Units.{SourceUnit}
 use Rattle.rows.specs.Objects.{Object}
 use Rattle.machine.specs.Machine.{begin}
 use Rattle.machine.specs.Instructions.{steps}
-use Rattle.linker.specs.Linking.{offered, lay, entry, link, all-words}
+use Rattle.linker.specs.Linking.{offered, link, all-words}
 use Rattle.semantics.specs.Runs.{zeros, source}
 use Rattle.semantics.specs.Whole.{Behaviour, behaviour, machine-behaviour}
-use Rattle.semantics.specs.Relation.{Object-of, Outcome}
+use Rattle.semantics.specs.Relation.{Outcome}
 use Rattle.semantics.specs.Theorems.{Objects-of, none, more, Linked-runs}
 use Rattle.semantics.proofs.Lookups.{both-found}
 use Rattle.semantics.proofs.NotBad.{ends}

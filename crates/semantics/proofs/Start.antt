@@ -2,23 +2,22 @@
 use mathlib.Core.Path.{_≡_, refl, sym, ap, ap₂, _∙_}
 use mathlib.Core.Logic.{_≢_}
 use mathlib.Core.List.{List, [], _∷_, _++_}
-use Prim.Native.Nat.{ℕ, zero, suc, _+_, _%_, _^_, _<_, _≤_}
+use Prim.Native.Nat.{ℕ, suc, _+_, _%_, _^_, _<_, _≤_}
 use native.Mathlib.Nat.{add-zero}
 use native.Mathlib.Omega.{arith}
 use lib.ListN.{length, take, replicate, set, getD, length-set, length-replicate, replicate-append-replicate}
 use lib.Seq.{take-set-le, getD-set-same, getD-set-other}
-use Rattle.std.specs.declared.option.Option.{Option}
-use Rattle.std.specs.declared.option.Option.the-variants.{Some, None}
+use Rattle.std.specs.declared.option.Option.the-variants.{Some}
 use Rattle.std.proofs.shelf.Lists.{take-replicate}
-use Rattle.std.proofs.iter.runs.Lists.{none-some, same-some}
+use Rattle.std.proofs.iter.runs.Lists.{none-some}
 use Rattle.rows.specs.Units.{SourceUnit}
 use Rattle.rows.specs.Objects.{Object}
 use Rattle.machine.specs.Machine.{Machine, begin, at}
 use Rattle.machine.specs.Instructions.{step, steps}
 use Rattle.linker.specs.Linking.{all-words}
-use Rattle.semantics.specs.Runs.{State, Result, value, no-room, no-calls, bad, zeros, source}
-use Rattle.semantics.specs.Whole.{Behaviour, done, without-room, without-calls, behaviour, machine-behaviour, halted-behaviour}
-use Rattle.semantics.specs.Relation.{flat, sizes, total, Represents, CallSite, Entered, Returned, Outcome}
+use Rattle.semantics.specs.Runs.{Result, value, no-room, no-calls, bad, zeros}
+use Rattle.semantics.specs.Whole.{Behaviour, done, behaviour, machine-behaviour}
+use Rattle.semantics.specs.Relation.{flat, sizes, CallSite, Entered, Outcome}
 use Rattle.semantics.specs.Theorems.{Objects-of, none, more}
 use Rattle.semantics.proofs.Steps.{steps-add}
 use Rattle.semantics.proofs.Laid.{widths, total-widths}

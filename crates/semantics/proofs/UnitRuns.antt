@@ -6,11 +6,11 @@ use Prim.Native.Nat.{ℕ, zero, suc, _-_}
 use lib.ListN.{length}
 use lib.Dec.{ltb}
 use Rattle.std.specs.declared.option.Option.{Option}
-use Rattle.std.specs.declared.option.Option.the-variants.{Some, None}
+use Rattle.std.specs.declared.option.Option.the-variants.{Some}
 use Rattle.std.specs.Finite.{nth}
 use Rattle.rows.specs.Options.{_>>=_}
 use Rattle.rows.specs.Units.{SourceUnit, Proc}
-use Rattle.semantics.specs.Runs.{State, Result, no-calls, eval, spend, enter, through, target, wanted, proc-at, run, Target}
+use Rattle.semantics.specs.Runs.{State, Result, eval, spend, enter, through, target, wanted, proc-at, run, Target}
 use Rattle.semantics.specs.Relation.{Imports, run-unit}
 
 -- what the wants of unit number i do in the program us

@@ -1,20 +1,19 @@
 -- What follows from the relation of a unit and its object, whoever made the objects.
 use mathlib.Core.Path.{_≡_}
-use mathlib.Core.Bool.{Bool, false}
+use mathlib.Core.Bool.{false}
 use mathlib.Core.List.{List, [], _∷_}
 use mathlib.Core.Logic.{_≢_}
 use Prim.Native.Nat.{ℕ, suc, _+_, _^_, _<_, _≤_}
 use lib.ListN.{length, getD, take}
 use lib.Dec.{T}
-use Rattle.std.specs.declared.option.Option.{Option}
-use Rattle.std.specs.declared.option.Option.the-variants.{Some, None}
+use Rattle.std.specs.declared.option.Option.the-variants.{Some}
 use Rattle.std.specs.Options.{isSome}
 use Rattle.rows.specs.Units.{SourceUnit}
 use Rattle.rows.specs.Objects.{Object}
 use Rattle.machine.specs.Machine.{Machine, begin, at}
 use Rattle.machine.specs.Instructions.{steps}
 use Rattle.linker.specs.Linking.{offered, link, all-words, twice}
-use Rattle.semantics.specs.Runs.{State, Result, value, word-at, source}
+use Rattle.semantics.specs.Runs.{State, value, word-at, source}
 use Rattle.semantics.specs.Whole.{names, distinct, offers-proc, starts, all-met, Fit-together, Behaviour, behaviour, machine-behaviour}
 use Rattle.semantics.specs.Relation.{total, Imports, run-unit, CallSite, Entered, Returned, Placed, Wants-do, Object-of}
 
