@@ -15,3 +15,4 @@ pub mod Linkable
 pub mod Untouched
 pub mod Alone
 pub mod Promised
+pub mod Images

@@ -7,3 +7,4 @@ pub mod Relation
 pub mod Ends
 pub mod Budgets
 pub mod Theorems
+pub mod Images
