@@ -66,6 +66,10 @@ named-found {us} {os} hs n l e = at-position (both-found (position n us) _ l (sy
     at-position : (j : ℕ) × (position n us ≡ Some j) × (mapped (laid os 4 0 j) (nth os j) ≡ Some l) → Named us os n l
     at-position h = let o = mapped-some (nth os (h .0)) (laid os 4 0 (h .0)) l (h .2) in (h .0, o .0, h .1, o .1, o .2)
 
+-- the place of a want in the object that was found for it
+abbrev pub offer-place : Want → Laid → Option ℕ
+offer-place w l = offered (w .proc) (w .args) (l .object .offers) >>= λ a. Some (l .code-at + a)
+
 -- what is found for a want: object number j with that name, and its offer
 abbrev pub Found : List SourceUnit → List Object → Want → ℕ → Type 0
 Found us os w a = (j : ℕ) × (o : Object) × (b : ℕ) × (position (w .unit) us ≡ Some j) × (nth os j ≡ Some o) × (offered (w .proc) (w .args) (o .offers) ≡ Some b) × (a ≡ code-place os j + b)
@@ -76,7 +80,7 @@ place-found {us} {os} hs w a e = at-name (both-found (named (w .unit) (lay os 4 
     at-offer : (l : Laid) → Named us os (w .unit) l → (b : ℕ) × (offered (w .proc) (w .args) (l .object .offers) ≡ Some b) × (Some (l .code-at + b) ≡ Some a) → Found us os w a
     at-offer l h k = (h .0, h .1, k .0, h .2, h .3, rw (← (h .4)) at (k .1), sym (rw (← (h .4)) at (same-some _ _ (k .2))))
 
-    at-name : (l : Laid) × (named (w .unit) (lay os 4 0) ≡ Some l) × ((offered (w .proc) (w .args) (l .object .offers) >>= λ b. Some (l .code-at + b)) ≡ Some a) → Found us os w a
+    at-name : (l : Laid) × (named (w .unit) (lay os 4 0) ≡ Some l) × (offer-place w l ≡ Some a) → Found us os w a
     at-name h = at-offer (h .0) (named-found hs (w .unit) (h .0) (h .1)) (both-found (offered (w .proc) (w .args) (h .0 .object .offers)) _ a (h .2))
 
 -- places of one want and more

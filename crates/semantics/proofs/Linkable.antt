@@ -19,26 +19,26 @@ use Rattle.semantics.specs.Whole.{among, names, distinct, offers-proc, unit-na
 use Rattle.semantics.specs.Theorems.{Objects-of, none, more, Says-the-same, Links, Links-only}
 use Rattle.semantics.proofs.Options.{some-found, is-some, is-some-then, is-some-and, same-test}
 use Rattle.semantics.proofs.Laid.{laid}
-use Rattle.semantics.proofs.Finding.{Matched, nth-matched, named-is}
+use Rattle.semantics.proofs.Finding.{Matched, nth-matched, named-is, offer-place}
 
 pub says-the-same : Says-the-same
 says-the-same u o h = record { name = h .name; words = h .words; wants = h .wants; offers = λ p k. same-test (offered p k (o .offers)) (offers-proc u p k) (h .offers-only p k) (h .offers p k) }
 
 -- the linker finds a place for a want exactly if a unit meets it
 met-at : (w : Want) (os : List Object) (j : ℕ) (x : Option SourceUnit) (y : Option Object) → Matched x y →
-    isSome (mapped (laid os 4 0 j) y >>= λ l. offered (w .proc) (w .args) (l .object .offers) >>= λ a. Some (l .code-at + a)) ≡ meets x w
+    isSome (mapped (laid os 4 0 j) y >>= offer-place w) ≡ meets x w
 met-at w os j None None h = refl
 met-at w os j None (Some o) h = absurd h
 met-at w os j (Some u) None h = absurd h
 met-at w os j (Some u) (Some o) h = is-some-then (offered (w .proc) (w .args) (o .offers)) _ ∙ says-the-same u o h .offers (w .proc) (w .args)
 
 met-by : {us : List SourceUnit} {os : List Object} → Objects-of us os → (w : Want) (x : Option ℕ) →
-    isSome ((x >>= λ j. mapped (laid os 4 0 j) (nth os j)) >>= λ l. offered (w .proc) (w .args) (l .object .offers) >>= λ a. Some (l .code-at + a)) ≡ meets (x >>= nth us) w
+    isSome ((x >>= λ j. mapped (laid os 4 0 j) (nth os j)) >>= offer-place w) ≡ meets (x >>= nth us) w
 met-by hs w None = refl
 met-by {us} {os} hs w (Some j) = met-at w os j (nth us j) (nth os j) (nth-matched hs j)
 
 place-met : {us : List SourceUnit} {os : List Object} → Objects-of us os → (w : Want) → isSome (place (lay os 4 0) w) ≡ meets (unit-named (w .unit) us) w
-place-met {us} {os} hs w = ap (λ x. isSome (x >>= λ l. offered (w .proc) (w .args) (l .object .offers) >>= λ a. Some (l .code-at + a))) (named-is hs (w .unit) 4 0) ∙ met-by hs w (position (w .unit) us)
+place-met {us} {os} hs w = ap (λ x. isSome (x >>= offer-place w)) (named-is hs (w .unit) 4 0) ∙ met-by hs w (position (w .unit) us)
 
 places-met : {us : List SourceUnit} {os : List Object} → Objects-of us os → (ws : List Want) → isSome (places (lay os 4 0) ws) ≡ wants-met us ws
 places-met hs [] = refl
