@@ -1,6 +1,6 @@
 -- What is put out stays put out: it begins what any run from there puts out.
 use mathlib.Core.Path.{_≡_, refl, ap, sym, subst, _∙_}
-use mathlib.Core.List.{List, [], _∷_, _++_, append-assoc}
+use mathlib.Core.List.{List, [], _∷_, _++_, append-nil, append-assoc}
 use Prim.Native.Nat.{ℕ, zero, suc, _-_}
 use Rattle.rows.specs.Units.{Expr, num, arg, word, op, if, keep, then, out, next, call, Exprs, nil, cons, SourceUnit}
 use Rattle.semantics.specs.Runs.{State, Result, value, no-room, no-calls, bad, on, ons, choose, eval, evals, Target, target, proc-at, through, run}
@@ -17,7 +17,10 @@ Extends b bad = Unit {0}
 abbrev pub Grows : List ℕ → (State → Result) → Type 0
 Grows b f = (s : State) → Begins b (s .outs) → Extends b (f s)
 
-begins-push : (b ws : List ℕ) (v : ℕ) → Begins b ws → Begins b (ws ++ (v ∷ []))
+pub begins-same : {ws ws′ : List ℕ} → ws ≡ ws′ → Begins ws ws′
+begins-same {ws} e = ([], sym e ∙ sym (append-nil ws))
+
+pub begins-push : (b ws : List ℕ) (v : ℕ) → Begins b ws → Begins b (ws ++ (v ∷ []))
 begins-push b ws v h = (h .0 ++ (v ∷ []), ap (λ xs. xs ++ (v ∷ [])) (h .1) ∙ append-assoc b (h .0) (v ∷ []))
 
 pub on-extends : (b : List ℕ) (r : Result) (k : ℕ → State → Result) → Extends b r → ((v : ℕ) → Grows b (k v)) → Extends b (on r k)

@@ -10,7 +10,8 @@ use Rattle.machine.specs.Instructions.{steps}
 use Rattle.linker.specs.Linking.{all-words}
 use Rattle.semantics.specs.Runs.{source}
 use Rattle.semantics.specs.Whole.{Behaviour, behaviour, machine-behaviour}
-use Rattle.semantics.specs.Images.{Company, End-alike, Image-company}
+use Rattle.semantics.specs.Theorems.{End-alike, Image-company}
+use Rattle.semantics.proofs.Company.{company}
 use Rattle.semantics.proofs.Main.{linked-runs}
 
 -- an image does what the units us do
@@ -22,7 +23,7 @@ end-alike : (us vs : List SourceUnit) (image : List ℕ) (words : ℕ) (image′
     Does us image words room calls tape → Does vs image′ words′ room calls tape → End-alike image words image′ words′ room calls tape
 end-alike us vs image words image′ words′ room calls tape same h k = (h .0, k .0, h .1, h .3, k .3 ∙ ap Some (same-some _ _ (sym (k .2) ∙ sym same ∙ h .2)))
 
-pub image-company : Company → Image-company
-image-company company u us vs os qs image image′ hs ks fit fit′ inside linked linked′ short short′ room calls tape small fits fits′ =
-    end-alike (u ∷ us) (u ∷ vs) image (all-words os) image′ (all-words qs) room calls tape (company u us vs room calls tape fit fit′ inside)
+pub image-company : Image-company
+image-company u us vs os qs image image′ hs ks fit fit′ inside linked linked′ short short′ room calls tape small fits fits′ =
+    end-alike (u ∷ us) (u ∷ vs) image (all-words os) image′ (all-words qs) room calls tape (company .any-company u us vs fit fit′ inside room calls tape)
     (linked-runs (u ∷ us) os image hs fit linked short room calls tape small fits) (linked-runs (u ∷ vs) qs image′ ks fit′ linked′ short′ room calls tape small fits′)

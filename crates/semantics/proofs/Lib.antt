@@ -1,8 +1,14 @@
 mod Cases
 pub mod Continuations
 pub mod Lookups
+pub mod Names
 pub mod NotBad
 pub mod Grows
+pub mod Alike
+pub mod SideBySide
+pub mod Thresholds
+pub mod Budgets
+pub mod Company
 pub mod Options
 pub mod UnitRuns
 pub mod Steps
@@ -11,8 +17,8 @@ pub mod Finding
 pub mod Linked
 pub mod Start
 pub mod Main
+pub mod Images
 pub mod Linkable
 pub mod Untouched
 pub mod Alone
 pub mod Promised
-pub mod Images

@@ -1,5 +1,5 @@
 -- What fitting together says of the unit, the procedure or the callee at a place.
-use mathlib.Core.Path.{_≡_, refl, sym, ap, subst, _∙_}
+use mathlib.Core.Path.{_≡_, refl, sym, ap, subst, subst₂, _∙_}
 use mathlib.Core.Bool.{Bool, true, false, cond, _&&_}
 use mathlib.Core.List.{List, [], _∷_}
 use Prim.Native.Nat.{ℕ, zero, suc, _-_}
@@ -67,29 +67,43 @@ own-callable us i p n u e t =
     let f = takes-found (nth (u .procs) p) (λ q. q .args) n t in
     record { target = record { unit = i; proc = p }; is = refl; proc = f .0; there = found-both (λ v. nth (v .procs) p) e (f .1); args = f .2 }
 
--- what meets a want of a unit
-pub want-callable : (us : List SourceUnit) (i c : ℕ) (u : SourceUnit) (w : Want) → T (all-met us us) → nth us i ≡ Some u → nth (u .wants) c ≡ Some w →
-    Callable us (wanted us w) (w .args)
-want-callable us i c u w t e f =
-    let met = nth-passes (λ v. meets (unit-named (v .unit) us) v) (wants-met us) (λ _ _. refl) (u .wants) c w (nth-passes (λ v. wants-met us (v .wants)) (all-met us) (λ _ _. refl) us i u t e) f in
-    let named = meets-found (unit-named (w .unit) us) w met in
-    let at = both-found (position (w .unit) us) (nth us) (named .0) (named .1) in
-    let offered = and-both (among (w .proc) (named .0 .offers)) (takes (mapped (λ q. q .args) (nth (named .0 .procs) (w .proc))) (w .args)) (named .2) .1 in
-    subst (λ o. Callable us o (w .args)) (sym (found-both (λ j. Some (record { unit = j; proc = w .proc })) (at .1) refl))
-    (own-callable us (at .0) (w .proc) (w .args) (named .0) (at .2) offered)
+-- a want is met: its unit is there under its name, and offers the procedure
+pub record Met (us : List SourceUnit) (w : Want) : Type 0 where
+  pub place : ℕ
+  pub unit : SourceUnit
+  pub named : position (w .unit) us ≡ Some place
+  pub there : nth us place ≡ Some unit
+  pub offers : T (offers-proc unit (w .proc) (w .args))
+
+pub want-met : (us : List SourceUnit) (i c : ℕ) (u : SourceUnit) (w : Want) → T (all-met us us) → nth us i ≡ Some u → nth (u .wants) c ≡ Some w → Met us w
+want-met us i c u w t e f =
+    let all = nth-passes (λ v. wants-met us (v .wants)) (all-met us) (λ _ _. refl) us i u t e in
+    let met = meets-found (unit-named (w .unit) us) w (nth-passes (λ v. meets (unit-named (v .unit) us) v) (wants-met us) (λ _ _. refl) (u .wants) c w all f) in
+    let at = both-found (position (w .unit) us) (nth us) (met .0) (met .1) in
+    record { place = at .0; unit = met .0; named = at .1; there = at .2; offers = met .2 }
+
+pub met-wanted : (us : List SourceUnit) (w : Want) (j : ℕ) → position (w .unit) us ≡ Some j → wanted us w ≡ Some (record { unit = j; proc = w .proc })
+met-wanted us w j e = found-both (λ k. Some (record { unit = k; proc = w .proc })) e refl
+
+want-callable : (us : List SourceUnit) (w : Want) → Met us w → Callable us (wanted us w) (w .args)
+want-callable us w m =
+    subst (λ o. Callable us o (w .args)) (sym (met-wanted us w (m .place) (m .named)))
+    (own-callable us (m .place) (w .proc) (w .args) (m .unit) (m .there)
+    (and-both (among (w .proc) (m .unit .offers)) (takes (mapped (λ q. q .args) (nth (m .unit .procs) (w .proc))) (w .args)) (m .offers) .1))
+
+-- a callee of the unit at i: one of its wants, or a procedure of its own
+pub target-at : (us : List SourceUnit) (i c : ℕ) (u : SourceUnit) → nth us i ≡ Some u →
+    target us i c ≡ cond (ltb c (length (u .wants))) (nth (u .wants) c >>= wanted us) (Some (record { unit = i; proc = c - length (u .wants) }))
+target-at us i c u e = ap (λ o. o >>= (λ v. cond (ltb c (length (v .wants))) (nth (v .wants) c >>= wanted us) (Some (record { unit = i; proc = c - length (v .wants) })))) e
 
 -- a callee that takes n arguments in a unit is there in the program
 pub callee-callable : (us : List SourceUnit) (i c n : ℕ) (u : SourceUnit) → T (all-met us us) → nth us i ≡ Some u → T (takes (arity u c) n) →
     Callable us (target us i c) n
-callee-callable us i c n u t e a = subst (λ o. Callable us o n) (sym (ap (λ o. o >>= at) e)) (which (ltb c (length (u .wants))) a)
+callee-callable us i c n u t e a = subst (λ o. Callable us o n) (sym (target-at us i c u e)) (which (ltb c (length (u .wants))) a)
   where
-    at : SourceUnit → Option Target
-    at v = cond (ltb c (length (v .wants))) (nth (v .wants) c >>= wanted us) (Some (record { unit = i; proc = c - length (v .wants) }))
-
     which : (b : Bool) → T (takes (cond b (mapped (λ w. w .args) (nth (u .wants) c)) (mapped (λ p. p .args) (nth (u .procs) (c - length (u .wants))))) n) →
         Callable us (cond b (nth (u .wants) c >>= wanted us) (Some (record { unit = i; proc = c - length (u .wants) }))) n
     which true h =
         let f = takes-found (nth (u .wants) c) (λ w. w .args) n h in
-        subst (λ m. Callable us (nth (u .wants) c >>= wanted us) m) (f .2)
-        (subst (λ o. Callable us (o >>= wanted us) (f .0 .args)) (sym (f .1)) (want-callable us i c u (f .0) t e (f .1)))
+        subst₂ (Callable us) (sym (ap (λ o. o >>= wanted us) (f .1))) (f .2) (want-callable us (f .0) (want-met us i c u (f .0) t e (f .1)))
     which false h = own-callable us i (c - length (u .wants)) n u e h

@@ -6,5 +6,5 @@ pub mod Cases
 pub mod Relation
 pub mod Ends
 pub mod Budgets
+pub mod Company
 pub mod Theorems
-pub mod Images

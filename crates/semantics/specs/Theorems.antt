@@ -15,6 +15,7 @@ use Rattle.machine.specs.Instructions.{steps}
 use Rattle.linker.specs.Linking.{offered, link, all-words, twice}
 use Rattle.semantics.specs.Runs.{State, value, word-at, source}
 use Rattle.semantics.specs.Whole.{names, distinct, offers-proc, starts, all-met, Fit-together, Behaviour, behaviour, machine-behaviour}
+use Rattle.semantics.specs.Company.{In}
 use Rattle.semantics.specs.Relation.{total, Imports, run-unit, CallSite, Entered, Returned, Placed, Wants-do, Object-of}
 
 -- os are objects of the units us, one for each, in the same order
@@ -73,6 +74,20 @@ Leaves-others-alone = (u : SourceUnit) (o : Object) → Object-of u o →
 abbrev pub Ends-once : Type 0
 Ends-once = (code : List ℕ) (m : Machine) (n n′ : ℕ) (b b′ : Behaviour) → machine-behaviour (steps n code m) ≡ Some b → machine-behaviour (steps n′ code m) ≡ Some b′ → b ≡ b′
 
+-- two images, run on the same tape with the same room and calls, end in the same way, having put out the same words
+abbrev pub End-alike : List ℕ → ℕ → List ℕ → ℕ → ℕ → ℕ → List ℕ → Type 0
+End-alike image words image′ words′ room calls tape = (n n′ : ℕ) × (b : Behaviour) ×
+    (machine-behaviour (steps n image (begin words room tape calls)) ≡ Some b) × (machine-behaviour (steps n′ image′ (begin words′ room tape calls)) ≡ Some b)
+
+-- os are objects of u and us, qs of u and vs, and every unit of us is one of vs: in another order, with others between, and made by other compilers.
+-- Then the images end alike
+abbrev pub Image-company : Type 0
+Image-company = (u : SourceUnit) (us vs : List SourceUnit) (os qs : List Object) (image image′ : List ℕ) → Objects-of (u ∷ us) os → Objects-of (u ∷ vs) qs →
+    Fit-together (u ∷ us) → Fit-together (u ∷ vs) → ((w : SourceUnit) → In w us → In w vs) →
+    link os ≡ Some image → link qs ≡ Some image′ → length image < 2 ^ 32 → length image′ < 2 ^ 32 →
+    (room calls : ℕ) (tape : List ℕ) → room < 2 ^ 32 → all-words os + room ≤ 2 ^ 32 → all-words qs + room ≤ 2 ^ 32 →
+    End-alike image (all-words os) image′ (all-words qs) room calls tape
+
 -- what is promised of objects and of what they are linked to
 pub record Demands : Type 0 where
   pub says : Says-the-same
@@ -81,3 +96,4 @@ pub record Demands : Type 0 where
   pub runs : Linked-runs
   pub ends-once : Ends-once
   pub leaves-others-alone : Leaves-others-alone
+  pub company : Image-company
