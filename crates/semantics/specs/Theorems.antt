@@ -79,8 +79,8 @@ abbrev pub End-alike : List ℕ → ℕ → List ℕ → ℕ → ℕ → ℕ →
 End-alike image words image′ words′ room calls tape = (n n′ : ℕ) × (b : Behaviour) ×
     (machine-behaviour (steps n image (begin words room tape calls)) ≡ Some b) × (machine-behaviour (steps n′ image′ (begin words′ room tape calls)) ≡ Some b)
 
--- os are objects of u and us, qs of u and vs, and every unit of us is one of vs: in another order, with others between, and made by other compilers.
--- Then the images end alike
+-- what a linked image puts out and how it ends depends neither on the order of the objects behind the first, nor on what else is linked, nor on who made them:
+-- if os are objects of u and us, qs of u and vs, and every unit of us is one of vs, their images end alike
 abbrev pub Image-company : Type 0
 Image-company = (u : SourceUnit) (us vs : List SourceUnit) (os qs : List Object) (image image′ : List ℕ) → Objects-of (u ∷ us) os → Objects-of (u ∷ vs) qs →
     Fit-together (u ∷ us) → Fit-together (u ∷ vs) → ((w : SourceUnit) → In w us → In w vs) →
