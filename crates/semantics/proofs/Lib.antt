@@ -11,3 +11,16 @@ pub mod Thresholds
 pub mod Budgets
 pub mod AnyOrder
 pub mod Company
+pub mod Options
+pub mod UnitRuns
+pub mod Steps
+pub mod Laid
+pub mod Finding
+pub mod Linked
+pub mod Start
+pub mod Main
+pub mod Images
+pub mod Linkable
+pub mod Untouched
+pub mod Alone
+pub mod Promised

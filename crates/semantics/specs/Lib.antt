@@ -1,4 +1,5 @@
--- What units do together, when they fit together, a table of worked cases, the relation of a unit and its object, and theorems on what units do.
+-- What units do together, when they fit together, a table of worked cases, the relation of a unit and its object, theorems on what units do,
+-- and what follows from the relation.
 pub mod Runs
 pub mod Whole
 pub mod Cases
@@ -6,3 +7,4 @@ pub mod Relation
 pub mod Ends
 pub mod Budgets
 pub mod Company
+pub mod Theorems

@@ -1,5 +1,6 @@
 // What units do together: the definitions stand in specs/, and a function for each theorem of them here.
 pub mod laws;
+pub mod promise;
 
 ghost use Rattle.semantics.specs.Cases.{Worked-cases};
 
