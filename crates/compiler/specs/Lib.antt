@@ -2,3 +2,5 @@
 pub mod Instructions
 pub mod Code
 pub mod Worked
+pub mod Simulation
+pub mod Correct
