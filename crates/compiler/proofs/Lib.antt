@@ -1,3 +1,6 @@
 pub mod Steps
 pub mod Placing
 pub mod Lying
+pub mod Words
+pub mod Stack
+pub mod Acts
