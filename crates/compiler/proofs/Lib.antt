@@ -4,3 +4,5 @@ pub mod Lying
 pub mod Words
 pub mod Stack
 pub mod Acts
+pub mod Outcomes
+pub mod Constructs

@@ -79,3 +79,6 @@ kept {m = m} ws high a few same above len sp fp free r = record {
   memory = len ∙ a .memory;
   below = λ j h k. above j h ∙ a .below j h k
 }
+
+pub at-place : {shape : List ℕ} {p q : ℕ} {vs : List ℕ} {s : State} {m m′ : Machine} → Stacked shape p vs s m m′ → p ≡ q → Stacked shape q vs s m m′
+at-place {shape} {vs = vs} {s = s} {m = m} {m′ = m′} a e = subst (λ (n : ℕ). Stacked shape n vs s m m′) e a
