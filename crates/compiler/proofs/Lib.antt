@@ -6,3 +6,5 @@ pub mod Stack
 pub mod Acts
 pub mod Outcomes
 pub mod Constructs
+pub mod Calling
+pub mod Expressions

@@ -60,6 +60,9 @@ module _ (code shape : List ℕ) where
   pub ends-at : (p q left : ℕ) (m₀ m : Machine) (r : Result) → p ≡ q → Comes-to code shape p left m₀ m r → Comes-to code shape q left m₀ m r
   ends-at p q left m₀ m r e c = subst (λ (n : ℕ). Comes-to code shape n left m₀ m r) e c
 
+  pub come-at : (p q n left : ℕ) (m₀ m : Machine) (r : Results) → p ≡ q → Come-to code shape p n left m₀ m r → Come-to code shape q n left m₀ m r
+  come-at p q n left m₀ m r e c = subst (λ (a : ℕ). Come-to code shape a n left m₀ m r) e c
+
   -- once the value is there the machine goes on from p to q
   pub moves-on : (p q left : ℕ) (m₀ m : Machine) (r : Result) → Comes-to code shape p left m₀ m r →
       ((v : ℕ) (s : State) (m′ : Machine) → Stacked shape p (v ∷ []) s m₀ m′ → (m″ : Machine) × Goes code m′ m″ × Stacked shape q (v ∷ []) s m₀ m″) → Comes-to code shape q left m₀ m r
