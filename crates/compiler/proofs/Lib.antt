@@ -8,3 +8,4 @@ pub mod Outcomes
 pub mod Constructs
 pub mod Calling
 pub mod Expressions
+pub mod Simulation

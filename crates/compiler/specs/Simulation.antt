@@ -78,4 +78,4 @@ Simulates-expressions =
     (vs : List ℕ) → T (formed u (length vs) e) →
     (room left : ℕ) (x : Calls) → Calls-do u l code shape room left x →
     (s : State) (m : Machine) → s .left ≤ left → Working shape (l .code + a) vs room (height e) s m →
-    Comes code shape (l .code + a + size e) (s .left) m (eval x i vs e s)
+    Comes code shape (l .code + (a + size e)) (s .left) m (eval x i vs e s)
