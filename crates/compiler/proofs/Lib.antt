@@ -9,3 +9,4 @@ pub mod Constructs
 pub mod Calling
 pub mod Expressions
 pub mod Simulation
+pub mod Procedures
