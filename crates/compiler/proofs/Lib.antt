@@ -10,3 +10,4 @@ pub mod Calling
 pub mod Expressions
 pub mod Simulation
 pub mod Procedures
+pub mod Units
