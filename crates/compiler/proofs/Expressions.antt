@@ -29,6 +29,10 @@ pub apart : (a b : Bool) → T (a && b) → T a × T b
 apart true b h = (tt, h)
 apart false b h = absurd h
 
+pub together : (a b : Bool) → T a → T b → T (a && b)
+together true b h k = k
+together false b h k = h
+
 takes-is : (o : Option ℕ) (n : ℕ) → T (takes o n) → o ≡ Some n
 takes-is None n h = absurd h
 takes-is (Some k) n h = ap {B = Option ℕ} Some (eqb→eq k n h)

@@ -11,3 +11,4 @@ pub mod Expressions
 pub mod Simulation
 pub mod Procedures
 pub mod Units
+pub mod Offers

@@ -28,7 +28,7 @@ use Rattle.compiler.proofs.Procedures.{proc-does}
 pub length-proc : (u : SourceUnit) (a : ℕ) (q : Proc) → length (code-words (code-proc u a q)) ≡ size-proc q
 length-proc u a q = simp length-words-append (omega (arith, length-expr (q .body) u (a + 6)))
 
-none-some : {A : Type 0} (x : A) → None ≡ Some x → ⊥
+pub none-some : {A : Type 0} (x : A) → None ≡ Some x → ⊥
 none-some x h = let z : _≡_ {A = ℕ} 0 1 = cc in omega arith
 
 -- the code of procedure p stands where it should
