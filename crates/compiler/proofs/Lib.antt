@@ -12,3 +12,6 @@ pub mod Simulation
 pub mod Procedures
 pub mod Units
 pub mod Offers
+pub mod Lengths
+pub mod Operands
+pub mod Correct
