@@ -15,3 +15,5 @@ pub mod Offers
 pub mod Lengths
 pub mod Operands
 pub mod Correct
+pub mod Weights
+pub mod Space
