@@ -1,7 +1,7 @@
 -- What each instruction does with the stack, one by one.
 use mathlib.Core.Path.{_≡_, refl, sym, ap, subst, _∙_}
 use mathlib.Core.List.{List, [], _∷_, _++_}
-use Prim.Native.Nat.{ℕ, zero, suc, _+_, _-_, _≤_, _<_}
+use Prim.Native.Nat.{ℕ, suc, _+_, _-_, _≤_, _<_}
 use native.Mathlib.Nat.{add-zero}
 use native.Mathlib.Omega.{arith}
 use lib.ListN.{length, getD, take, drop, set, length-set}
@@ -10,7 +10,7 @@ use Rattle.std.specs.declared.option.Option.the-variants.{Some}
 use Rattle.std.specs.Finite.{nth}
 use Rattle.rows.specs.Operations.{Op, apply}
 use Rattle.machine.specs.Machine.{Machine, at, top, push, move}
-use Rattle.machine.specs.Instructions.{act, operate, branch, Push, Arg, Load, Store, JumpIfZero, Jump, Out, Next, Pop}
+use Rattle.machine.specs.Instructions.{act, operate, branch, Store, JumpIfZero, Jump, Out, Next, Pop}
 use Rattle.semantics.specs.Runs.{State, with-words, with-tape, with-outs, word-at, keep-at}
 use Rattle.semantics.specs.Relation.{flat, sizes, total, Represents}
 use Rattle.compiler.proofs.Words.{words-inside, flat-word, flat-keep, sizes-keep}
@@ -25,7 +25,7 @@ above-words {shape} {m = m} m′ a v r high e t o l h = record {
   tape = t ∙ r .tape;
   outs = o ∙ r .outs;
   left = l ∙ r .left;
-  running = h
+  running = h;
 }
 
 moved : {shape : List ℕ} {s : State} {m : Machine} (pc fp sp : ℕ) → Represents shape s m → Represents shape s (move m pc fp sp (m .memory))
@@ -44,7 +44,7 @@ takes-next {shape} {s} {m} n high inside r =
       tape = ap (λ (xs : List ℕ). drop 1 xs) (r .tape);
       outs = r .outs;
       left = r .left;
-      running = refl
+      running = refl;
     })
 
 pub operates : {shape : List ℕ} {p : ℕ} {s : State} {m m₁ : Machine} (o : Op) (v w : ℕ) → total shape ≤ m .sp → m .sp < length (m .memory) → Stacked shape p (v ∷ w ∷ []) s m m₁ →
@@ -71,7 +71,7 @@ puts-out {m₁ = m₁} v n high a =
       tape = a .represents .tape;
       outs = rw (a .represents .outs, top-is v a);
       left = a .represents .left;
-      running = refl
+      running = refl;
     })
 
 pub pops : {shape : List ℕ} {p : ℕ} {s : State} {m m₁ : Machine} (v n : ℕ) → total shape ≤ m .sp → Stacked shape p (v ∷ []) s m m₁ → Stacked shape (m₁ .pc + 2) [] s m (act Pop n m₁)
@@ -102,7 +102,7 @@ stores {shape} {s = s} {m = m} {m₁ = m₁} i k j v h l high a =
     let inside : total (take i shape) + j < total shape = omega (arith, words-inside shape i k h) in
     let there : nth (sizes (s .words)) i ≡ Some k = cc in
     let words : take (total shape) (set (m₁ .memory) (total (take i shape) + j) (top m₁)) ≡ flat (keep-at (s .words) i j v) =
-        cc (take-set-lt (total shape) (m₁ .memory) (total (take i shape) + j) (top m₁) inside, flat-keep (s .words) i k j v there l, top-is v a) in
+    cc (take-set-lt (total shape) (m₁ .memory) (total (take i shape) + j) (top m₁) inside, flat-keep (s .words) i k j v there l, top-is v a) in
     kept (v ∷ []) high a (omega arith) (λ j h. refl) (λ b g. getD-set-other (m₁ .memory) (total (take i shape) + j) b (top m₁) 0 (omega arith))
     (length-set (m₁ .memory) (total (take i shape) + j) (top m₁)) (a .sp) refl refl (record {
       sized = sizes-keep (s .words) i j v ∙ a .represents .sized;
@@ -110,5 +110,5 @@ stores {shape} {s = s} {m = m} {m₁ = m₁} i k j v h l high a =
       tape = a .represents .tape;
       outs = a .represents .outs;
       left = a .represents .left;
-      running = refl
+      running = refl;
     })

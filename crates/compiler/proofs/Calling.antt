@@ -1,20 +1,18 @@
 -- Calls: what the machine is when a call has been entered, and what it is when the call has returned.
-use mathlib.Core.Path.{_≡_, refl, sym, ap, subst, _∙_}
-use mathlib.Core.List.{List, [], _∷_, _++_}
-use Prim.Native.Nat.{ℕ, zero, suc, _+_, _%_, _^_, _≤_, _<_, max}
+use mathlib.Core.Path.{_≡_, refl, _∙_}
+use mathlib.Core.List.{List, [], _∷_}
+use Prim.Native.Nat.{ℕ, zero, suc, _+_, _%_, _^_, _<_}
 use native.Mathlib.Nat.{add-zero}
 use native.Mathlib.Omega.{arith}
-use lib.ListN.{length, getD, set, take, length-set}
+use lib.ListN.{length, getD, set, length-set}
 use lib.Seq.{take-set-le, getD-set-same, getD-set-other}
-use Rattle.std.specs.declared.option.Option.{Option}
-use Rattle.std.specs.declared.option.Option.the-variants.{Some}
 use Rattle.machine.specs.Machine.{Machine, at}
 use Rattle.machine.specs.Instructions.{Call, act, steps}
 use Rattle.semantics.specs.Runs.{State, Result, value, no-room, no-calls, bad}
-use Rattle.semantics.specs.Relation.{total, Represents, CallSite, Entered, Returned, Outcome}
+use Rattle.semantics.specs.Relation.{total, CallSite, Entered, Returned, Outcome}
 use Rattle.compiler.specs.Instructions.{Operand, Place, placed-word}
 use Rattle.compiler.specs.Simulation.{Working}
-use Rattle.compiler.proofs.Steps.{Goes, goes-on, halts-after}
+use Rattle.compiler.proofs.Steps.{goes-on, halts-after}
 use Rattle.compiler.proofs.Lying.{At}
 use Rattle.compiler.proofs.Stack.{Stacked}
 use Rattle.compiler.proofs.Outcomes.{Comes-to, goes-act}
@@ -55,7 +53,7 @@ module _ (code shape : List ℕ) (l : Place) (short : length code < 2 ^ 32) wher
         tape = c .represents .tape;
         outs = c .represents .outs;
         left = c .represents .left;
-        running = refl
+        running = refl;
       };
       pc = refl;
       sp = omega arith;
@@ -65,7 +63,7 @@ module _ (code shape : List ℕ) (l : Place) (short : length code < 2 ^ 32) wher
       fits = simp length-set (omega arith);
       addressable = simp length-set (omega arith);
       arguments = λ j h. other (m .sp + j) (omega arith) ∙ c .values j h;
-      return = λ h. (back (rw same-length at h), caller (rw same-length at h))
+      return = λ h. (back (rw same-length at h), caller (rw same-length at h));
     }
 
     returned : (v : ℕ) (q : State) (m₂ : Machine) → Returned shape site v q called m₂ → Stacked shape (l .code + (a + 2)) (v ∷ []) q m m₂
@@ -77,7 +75,7 @@ module _ (code shape : List ℕ) (l : Place) (short : length code < 2 ^ 32) wher
       values = there-is;
       free = r .free ∙ c .free;
       memory = r .memory ∙ same-length ∙ c .memory;
-      below = λ j h k. r .below j h k ∙ other j (omega arith) ∙ c .below j h k
+      below = λ j h k. r .below j h k ∙ other j (omega arith) ∙ c .below j h k;
     }
       where
         there-is : (j : ℕ) → j < 1 → at m₂ (m .sp + j) ≡ getD (v ∷ []) j 0

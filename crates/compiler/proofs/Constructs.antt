@@ -1,28 +1,28 @@
 -- What the code of each kind of expression does, if the code of its parts does what the parts do.
 use mathlib.Core.Path.{_≡_, refl, sym, ap, subst, _∙_}
-use mathlib.Core.List.{List, [], _∷_, _++_}
-use Prim.Native.Nat.{ℕ, zero, suc, _+_, _%_, _^_, _≤_, _<_, max}
+use mathlib.Core.List.{List, [], _∷_}
+use Prim.Native.Nat.{ℕ, zero, suc, _+_, _^_, _≤_, _<_}
 use native.Mathlib.Omega.{arith}
 use lib.ListN.{length, getD, take}
 use Rattle.std.specs.declared.option.Option.{Option}
 use Rattle.std.specs.declared.option.Option.the-variants.{Some}
 use Rattle.std.specs.Finite.{nth}
 use Rattle.rows.specs.Operations.{Op, Add, Sub, Mul, Div, Less, Same, operations, number, apply}
-use Rattle.rows.specs.Units.{Expr, num, arg, word, op, if, keep, then, out, next, call, Exprs, nil, cons, count, SourceUnit}
-use Rattle.rows.specs.Frames.{height, heights}
+use Rattle.rows.specs.Units.{Expr, num, arg, word, op, if, keep, then, out, next}
+use Rattle.rows.specs.Frames.{height}
 use Rattle.machine.specs.Machine.{Machine, at, push}
 use Rattle.machine.specs.Instructions.{Opcode, Push, Arg, Load, Store, Operate, JumpIfZero, Jump, Out, Next, Pop, act, operate}
-use Rattle.semantics.specs.Runs.{State, Result, value, on, choose, eval, evals, word-at}
-use Rattle.semantics.specs.Relation.{total, Represents}
+use Rattle.semantics.specs.Runs.{State, value, on, choose, eval, word-at}
+use Rattle.semantics.specs.Relation.{total}
 use Rattle.compiler.specs.Instructions.{Operand, plain, in-code, in-words, Place, placed-word}
-use Rattle.compiler.specs.Code.{size, size-args}
+use Rattle.compiler.specs.Code.{size}
 use Rattle.compiler.specs.Simulation.{Calls, Working}
-use Rattle.compiler.proofs.Steps.{Goes, goes-on, goes-step}
+use Rattle.compiler.proofs.Steps.{Goes, goes-step}
 use Rattle.compiler.proofs.Lying.{At}
 use Rattle.compiler.proofs.Words.{words-inside}
 use Rattle.compiler.proofs.Stack.{Stacked, nothing, append, at-place}
 use Rattle.compiler.proofs.Acts.{pushes, takes-next, operates, puts-out, pops, jumps, branches, falls-through, loads, stores}
-use Rattle.compiler.proofs.Outcomes.{Comes-to, Come-to, after, fewer, ends-at, moves-on, rebased, goes-with, first-goes, more-go, act-is, goes-act}
+use Rattle.compiler.proofs.Outcomes.{Comes-to, after, fewer, ends-at, moves-on, rebased, goes-with, act-is, goes-act}
 
 -- with values on the stack the activation is still what it was
 pub working : {shape vs ws : List ℕ} {p q room h : ℕ} {s t : State} {m m₁ : Machine} (k : ℕ) → Working shape p vs room h s m → length ws + k ≤ h → Stacked shape q ws t m m₁ → Working shape q vs room k t m₁
@@ -35,7 +35,7 @@ working {vs = vs} {m = m} {m₁ = m₁} k w few a = record {
   free = a .free ∙ w .free;
   room-word = w .room-word;
   memory = omega arith;
-  addressable = omega arith
+  addressable = omega arith;
 }
 
 pub narrow : {shape vs : List ℕ} {p room h : ℕ} {s : State} {m : Machine} (k : ℕ) → Working shape p vs room h s m → k ≤ h → Working shape p vs room k s m
@@ -91,6 +91,7 @@ module _ (code shape : List ℕ) (i : ℕ) (l : Place) (vs : List ℕ) (room lef
       third v r m₁ few c v₂ t m₂ few₂ c₂ =
           act-comes (apply o v v₂) (l .code + (a + (size y + (size z + 2)))) (s .left) there (append (omega arith) c c₂) (omega arith)
           (subst (λ (q : Option Op). Stacked shape (m₂ .pc + 2) (apply o v v₂ ∷ []) t m (operate m₂ q)) (sym (operation-there o)) (operates o v v₂ (omega arith) (omega arith) (append (omega arith) c c₂))) (omega arith)
+
       second : (v : ℕ) (r : State) (m₁ : Machine) → r .left ≤ s .left → Stacked shape (l .code + (a + size y)) (v ∷ []) r m m₁ →
           Comes-to code shape (l .code + (a + (size y + (size z + 2)))) (s .left) m m₁ (on (eval x i vs z r) (λ v₂ t. value (apply o v v₂) t))
       second v r m₁ few c =
@@ -106,7 +107,7 @@ module _ (code shape : List ℕ) (i : ℕ) (l : Place) (vs : List ℕ) (room lef
   then-does y z a there dy dz s m b w =
       goes-with code shape (l .code + (a + size y)) (l .code + (a + (size y + (2 + size z)))) (s .left) (s .left) m m m (eval x i vs y s) _ (dy s m b (narrow (height y) w (omega arith)))
       (λ v t m₁ few c. continues z (a + size y + 2) (l .code + (a + (size y + (2 + size z)))) (s .left) dz w (omega arith) (goes-act code shape l there c)
-        (at-place (pops v 0 (omega arith) c) (omega arith)) few b (omega arith))
+      (at-place (pops v 0 (omega arith) c) (omega arith)) few b (omega arith))
 
   pub if-does : (c y z : Expr) (a : ℕ) → length code < 2 ^ 32 → l .code + (a + size c + 2 + size y + 2 + size z) ≤ length code →
       At code l (a + size c) JumpIfZero (in-code (a + size c + 2 + size y + 2)) → At code l (a + size c + 2 + size y) Jump (in-code (a + size c + 2 + size y + 2 + size z)) →
@@ -119,6 +120,7 @@ module _ (code shape : List ℕ) (i : ℕ) (l : Place) (vs : List ℕ) (room lef
         where
           n : ℕ
           n = placed-word l (in-code (a + size c + 2 + size y + 2 + size z))
+
       chosen : (v : ℕ) (t : State) (m₁ : Machine) → t .left ≤ s .left → Stacked shape (l .code + (a + size c)) (v ∷ []) t m m₁ →
           Comes-to code shape (l .code + (a + size (if c y z))) (s .left) m m₁ (choose v (eval x i vs y t) (eval x i vs z t))
       chosen zero t m₁ few d = continues z (a + size c + 2 + size y + 2) (l .code + (a + size (if c y z))) (s .left) dz w (omega arith) (goes-act code shape l there d)

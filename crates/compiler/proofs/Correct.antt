@@ -1,23 +1,23 @@
 -- The object of a unit within the limits stands in the relation to it.
-use mathlib.Core.Path.{_≡_, refl, sym, ap, subst, subst₂, _∙_}
-use mathlib.Core.Bool.{Bool, true, false, _&&_, _||_}
-use mathlib.Core.List.{List, [], _∷_, _++_}
-use Prim.Native.Nat.{ℕ, zero, suc, _+_, _*_, _^_, _≤_, _<_}
+use mathlib.Core.Path.{_≡_, refl, sym, ap, subst₂, _∙_}
+use mathlib.Core.Bool.{_&&_}
+use mathlib.Core.List.{List, [], _∷_}
+use Prim.Native.Nat.{ℕ, suc, _+_, _*_, _≤_, _<_}
 use native.Mathlib.Omega.{arith}
 use lib.ListN.{length, length-append}
 use lib.Dec.{T, ltb, leb, lt→ltb, le→leb}
 use Rattle.rows.specs.Units.{SourceUnit}
 use Rattle.rows.specs.Objects.{Fit}
-use Rattle.rows.specs.UnitRows.{rowWants, rowProcs, rowUnit, Unit-row}
+use Rattle.rows.specs.UnitRows.{rowWants, rowProcs, Unit-row}
 use Rattle.rows.specs.ObjectRows.{offers-inside, fits-inside, sound}
 use Rattle.semantics.specs.Relation.{run-unit, Simulates, Simulates-unit, Object-of}
 use Rattle.compiler.specs.Instructions.{Operand, plain, in-code, in-words, of-want, Instruction, instr, code-words, fit-operand, code-fits}
-use Rattle.compiler.specs.Code.{proc-at, code-unit, offers-of, object}
+use Rattle.compiler.specs.Code.{code-unit, offers-of, object}
 use Rattle.compiler.specs.Correct.{Compiles}
 use Rattle.compiler.proofs.Expressions.{together}
 use Rattle.compiler.proofs.Units.{own-do}
 use Rattle.compiler.proofs.Offers.{offers-all, offers-found, offers-nothing-else, offers-begin}
-use Rattle.compiler.proofs.Lengths.{size-procs, length-procs, proc-at-most, size-procs-row}
+use Rattle.compiler.proofs.Lengths.{size-procs, proc-at-most, size-procs-row}
 use Rattle.compiler.proofs.Operands.{Sane, All-sane, procs-sane}
 
 -- a fit of an operand, and those of the instructions behind it
@@ -59,7 +59,7 @@ module _ (s : List ℕ) (u : SourceUnit) (r : Unit-row s u) where
     accepted = accepted;
     offers = offers-all u;
     offers-only = λ p k a h. offers-nothing-else u p k a (r .offers) h;
-    simulates = simulates
+    simulates = simulates;
   }
 
 pub compiles : Compiles

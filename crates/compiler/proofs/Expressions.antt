@@ -1,11 +1,11 @@
 -- Code for an expression does what the expression does, as long as its calls do what they should.
-use mathlib.Core.Path.{_≡_, refl, sym, ap, subst, _∙_}
+use mathlib.Core.Path.{_≡_, refl, ap}
 use mathlib.Core.Bool.{Bool, true, false, _&&_}
-use mathlib.Core.List.{List, [], _∷_, _++_}
-use Prim.Native.Nat.{ℕ, zero, suc, _+_, _%_, _^_, _≤_, _<_, max}
+use mathlib.Core.List.{List, _∷_}
+use Prim.Native.Nat.{ℕ, _+_, _^_, _≤_, _<_}
 use native.Mathlib.Omega.{arith}
-use lib.ListN.{length, getD, take}
-use lib.Dec.{T, ltb, eqb, ltb→lt, eqb→eq}
+use lib.ListN.{length, take}
+use lib.Dec.{T, ltb, ltb→lt, eqb→eq}
 use Rattle.std.specs.declared.option.Option.{Option}
 use Rattle.std.specs.declared.option.Option.the-variants.{Some, None}
 use Rattle.std.specs.Finite.{nth}
@@ -14,14 +14,14 @@ use Rattle.rows.specs.Frames.{height, heights}
 use Rattle.rows.specs.Formed.{takes, formed, formed-args}
 use Rattle.machine.specs.Machine.{Machine}
 use Rattle.machine.specs.Instructions.{Call}
-use Rattle.semantics.specs.Runs.{State, Result, values, more, eval, evals}
+use Rattle.semantics.specs.Runs.{State, values, more, eval, evals}
 use Rattle.semantics.specs.Relation.{total}
-use Rattle.compiler.specs.Instructions.{Instruction, Place, placed-word}
+use Rattle.compiler.specs.Instructions.{Place}
 use Rattle.compiler.specs.Code.{size, size-args, callee, code-expr, code-args}
 use Rattle.compiler.specs.Simulation.{Calls, Calls-do, Working}
 use Rattle.compiler.proofs.Lying.{At, Here, here-inside, split-expr, split-args, length-expr}
-use Rattle.compiler.proofs.Stack.{Stacked, nothing}
-use Rattle.compiler.proofs.Outcomes.{Comes-to, Come-to, fewer, ends-at, come-at, goes-with-all, first-goes, more-go}
+use Rattle.compiler.proofs.Stack.{nothing}
+use Rattle.compiler.proofs.Outcomes.{Come-to, fewer, ends-at, come-at, goes-with-all, first-goes, more-go}
 use Rattle.compiler.proofs.Constructs.{working, narrow, Does, num-does, arg-does, word-does, op-does, if-does, keep-does, then-does, out-does, next-does}
 use Rattle.compiler.proofs.Calling.{enters, returns}
 
@@ -39,7 +39,6 @@ takes-is (Some k) n h = ap {B = Option ℕ} Some (eqb→eq k n h)
 
 module _ (u : SourceUnit) (code shape : List ℕ) (i : ℕ) (l : Place) (short : length code < 2 ^ 32) (unit : nth shape i ≡ Some (u .words)) (words : l .words ≡ total (take i shape))
     (vs : List ℕ) (room left : ℕ) (x : Calls) (calls : Calls-do u l code shape room left x) where
-
   abbrev All-do : Exprs → ℕ → Type 0
   All-do es a = (s : State) (m : Machine) → s .left ≤ left → Working shape (l .code + a) vs room (heights es) s m →
       Come-to code shape (l .code + (a + size-args es)) (count es) (s .left) m m (evals x i vs es s)
@@ -48,16 +47,16 @@ module _ (u : SourceUnit) (code shape : List ℕ) (i : ℕ) (l : Place) (short :
   call-does c es a f there d s m b w =
       goes-with-all code shape (l .code + (a + size-args es)) (l .code + (a + (size-args es + 2))) (count es) (s .left) (s .left) m m m (evals x i vs es s) _ (d s m b (narrow (heights es) w (omega arith)))
       (λ ws t m₁ few e k. fewer code shape (l .code + (a + (size-args es + 2))) (t .left) (s .left) m m₁ (x c ws t) few
-        (ends-at code shape (l .code + (a + size-args es + 2)) (l .code + (a + (size-args es + 2))) (t .left) m m₁ (x c ws t) (omega arith)
-        (returns code shape l short (a + size-args es) (callee u c) there vs ws (l .code + a) room (height (call c es)) s t m m₁ w k (x c ws t)
-        (calls c (count es) (takes-is (arity u c) (count es) f) _ ws t _ e (omega arith) (enters code shape l short (a + size-args es) (callee u c) there vs ws (l .code + a) room (height (call c es)) s t m m₁ w k)))))
+      (ends-at code shape (l .code + (a + size-args es + 2)) (l .code + (a + (size-args es + 2))) (t .left) m m₁ (x c ws t) (omega arith)
+      (returns code shape l short (a + size-args es) (callee u c) there vs ws (l .code + a) room (height (call c es)) s t m m₁ w k (x c ws t)
+      (calls c (count es) (takes-is (arity u c) (count es) f) _ ws t _ e (omega arith) (enters code shape l short (a + size-args es) (callee u c) there vs ws (l .code + a) room (height (call c es)) s t m m₁ w k)))))
 
   cons-do : (e : Expr) (es : Exprs) (a : ℕ) → Does code shape i l vs room left x e a → All-do es (a + size e) → All-do (cons e es) a
   cons-do e es a de des s m b w =
       first-goes code shape (l .code + (a + size e)) (l .code + (a + (size e + size-args es))) (1 + count es) (s .left) (s .left) m m m (eval x i vs e s) _ (de s m b (narrow (height e) w (omega arith)))
       (λ v t m₁ few c. come-at code shape (l .code + (a + size e + size-args es)) (l .code + (a + (size e + size-args es))) (1 + count es) (s .left) m m₁ (more (evals x i vs es t) (λ ws r. values (v ∷ ws) r)) (omega arith)
-        (more-go code shape (l .code + (a + size e)) (l .code + (a + size e + size-args es)) (count es) (t .left) (s .left) v m m₁ (evals x i vs es t) (omega arith) few c
-        (des t m₁ (omega arith) (working (heights es) w (omega arith) c))))
+      (more-go code shape (l .code + (a + size e)) (l .code + (a + size e + size-args es)) (count es) (t .left) (s .left) v m m₁ (evals x i vs es t) (omega arith) few c
+      (des t m₁ (omega arith) (working (heights es) w (omega arith) c))))
 
   mutual
     pub expr-does : (e : Expr) (a : ℕ) → Here code l a (code-expr u a e) → T (formed u (length vs) e) → Does code shape i l vs room left x e a

@@ -1,10 +1,10 @@
 -- An object offers what its unit offers, and nothing else.
-use mathlib.Core.Path.{_≡_, refl, sym, ap, subst, _∙_}
+use mathlib.Core.Path.{_≡_, refl, sym}
 use mathlib.Core.Bool.{Bool, true, false, cond, _&&_, _||_}
-use mathlib.Core.List.{List, [], _∷_, _++_}
-use Prim.Native.Nat.{ℕ, zero, suc, _+_, _≤_, _<_}
+use mathlib.Core.List.{List, [], _∷_}
+use Prim.Native.Nat.{ℕ, zero, suc, _+_, _<_}
 use native.Mathlib.Omega.{arith}
-use lib.ListN.{length, getD}
+use lib.ListN.{length}
 use lib.Dec.{T, ltb, eqb, ltb→lt, lt→ltb, eqb→eq, eqb-refl}
 use Rattle.std.specs.declared.option.Option.{Option}
 use Rattle.std.specs.declared.option.Option.the-variants.{Some, None}
@@ -76,18 +76,19 @@ offered-from u p k a (o ∷ os) b h = go (eqb p o) (eqb k (proc-args (nth (u .pr
   where
     later : Found u p k a os → Found u p k a (o ∷ os)
     later f = record { listed = also (eqb p o) (among p os) (f .listed); has = f .has; at = f .at }
+
     here : eqb p o ≡ true → eqb k (proc-args (nth (u .procs) o)) ≡ true → Some (proc-at (u .procs) o) ≡ Some a → Found u p k a (o ∷ os)
     here e g h =
         let same : p ≡ o = eqb-true p o e in
         let (q, there) = nth-there (u .procs) o (ltb→lt o (length (u .procs)) (apart (ltb o (length (u .procs))) (all-below (length (u .procs)) os) b .0)) in
         let args : k ≡ proc-args (nth (u .procs) o) = eqb-true k (proc-args (nth (u .procs) o)) g in
         record { listed = rw e tt; has = record { proc = q; there = rw same there; args = sym (rw there at args) }; at = cc }
+
     go : (x y : Bool) → eqb p o ≡ x → eqb k (proc-args (nth (u .procs) o)) ≡ y → cond (x && y) (Some (proc-at (u .procs) o)) (offered p k (offers-of u os)) ≡ Some a →
         (offered p k (offers-of u os) ≡ Some a → Found u p k a os) → Found u p k a (o ∷ os)
     go true true e g h rest = here e g h
     go true false e g h rest = later (rest h)
     go false y e g h rest = later (rest h)
-
 
 pub offers-all : (u : SourceUnit) (p k : ℕ) → T (offers-proc u p k) → (a : ℕ) × (offered p k (offers-of u (u .offers)) ≡ Some a)
 offers-all u p k h = let r = apart (among p (u .offers)) (takes (mapped (λ (q : Proc). q .args) (nth (u .procs) p)) k) h in (proc-at (u .procs) p, offered-in u p k (has-taken u p k (r .1)) (u .offers) (r .0))

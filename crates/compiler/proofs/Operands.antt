@@ -1,11 +1,11 @@
 -- Operands are words, and wants that fits name are there.
-use mathlib.Core.Path.{_≡_, refl, sym, ap, subst, _∙_}
-use mathlib.Core.Bool.{Bool, true, false, cond, _&&_, _||_}
+use mathlib.Core.Path.{_≡_, refl}
+use mathlib.Core.Bool.{Bool, true, false, cond, _&&_}
 use mathlib.Core.List.{List, [], _∷_, _++_}
-use Prim.Native.Nat.{ℕ, zero, suc, _+_, _-_, _*_, _^_, _≤_, _<_, max}
+use Prim.Native.Nat.{ℕ, suc, _+_, _-_, _^_, _≤_, _<_}
 use native.Mathlib.Omega.{arith}
 use lib.ListN.{length, length-append}
-use lib.Dec.{T, ltb, leb, ltb→lt, lt→ltb, leb→le, le→leb}
+use lib.Dec.{T, ltb, leb, ltb→lt, leb→le}
 use Rattle.std.proofs.shelf.Tests.{ltb-true}
 use Rattle.rows.specs.Operations.{Op, Add, Sub, Mul, Div, Less, Same, number}
 use Rattle.rows.specs.Units.{Expr, num, arg, word, op, if, keep, then, out, next, call, Exprs, nil, cons, count, Proc, SourceUnit, arity}
@@ -60,9 +60,13 @@ module _ (u : SourceUnit) (words : u .words ≤ 4096) (procs : (n : ℕ) → pro
       expr-sane (if c y z) a f b =
           let r = apart (formed u k c) (formed u k y && formed u k z) f in
           let t = apart (formed u k y) (formed u k z) (r .1) in
-          both-sane (length (u .wants)) (code-expr u a c) _ (expr-sane c a (r .0) (omega arith)) (omega arith,
-            both-sane (length (u .wants)) (code-expr u (a + size c + 2) y) _ (expr-sane y (a + size c + 2) (t .0) (omega arith)) (omega arith,
-            expr-sane z (a + size c + 2 + size y + 2) (t .1) (omega arith)))
+          both-sane (length (u .wants)) (code-expr u a c) _ (expr-sane c a (r .0) (omega arith)) (
+            omega arith,
+            both-sane (length (u .wants)) (code-expr u (a + size c + 2) y) _ (expr-sane y (a + size c + 2) (t .0) (omega arith)) (
+              omega arith,
+              expr-sane z (a + size c + 2 + size y + 2) (t .1) (omega arith),
+            ),
+          )
       expr-sane (keep j e) a f b =
           let r = apart (ltb j (u .words)) (formed u k e) f in
           both-sane (length (u .wants)) (code-expr u a e) _ (expr-sane e a (r .1) (omega arith)) (omega (arith, ltb→lt j (u .words) (r .0)), tt)

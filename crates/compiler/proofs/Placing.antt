@@ -3,11 +3,11 @@ use mathlib.Core.Path.{_≡_, refl, sym, ap, _∙_}
 use mathlib.Core.List.{List, [], _∷_, _++_}
 use Prim.Native.Nat.{ℕ, suc, _+_, _%_, _^_}
 use native.Mathlib.Omega.{arith}
-use lib.ListN.{length, getD, set, length-append}
+use lib.ListN.{length, set, length-append}
 use lib.Seq.{set-at, getD-at}
 use Rattle.std.proofs.shelf.Lists.{append-assoc}
-use Rattle.rows.specs.Objects.{Fit, Object}
-use Rattle.linker.specs.Linking.{Laid, fitted, fit-all}
+use Rattle.rows.specs.Objects.{Fit}
+use Rattle.linker.specs.Linking.{Laid, fit-all}
 use Rattle.compiler.specs.Instructions.{Operand, plain, in-code, in-words, of-want, Instruction, instr, opcode-number, operand-word, code-words, fit-operand, code-fits, Place, placed-word, placed-words}
 
 pub length-placed : (l : Place) (is : List Instruction) → length (placed-words l is) ≡ length (code-words is)
@@ -37,8 +37,10 @@ fit-from l ps done a (instr o x ∷ is) h =
   where
     fs : List Fit
     fs = code-fits (a + 2) is
+
     rest : List ℕ
     rest = code-words is
+
     y : ℕ
     y = placed-word (laid-place l ps) x
 

@@ -9,19 +9,19 @@ use lib.Seq.{take-set-le, getD-set-same, getD-set-other}
 use lib.Dec.{T, ltb}
 use Rattle.std.specs.declared.option.Option.the-variants.{Some}
 use Rattle.std.specs.Finite.{nth}
-use Rattle.std.proofs.shelf.Tests.{ltb-true, ltb-false, cond-true, cond-false}
+use Rattle.std.proofs.shelf.Tests.{ltb-false, cond-true, cond-false}
 use Rattle.rows.specs.Units.{Proc, SourceUnit}
 use Rattle.rows.specs.Frames.{height, frame}
 use Rattle.rows.specs.Formed.{formed}
 use Rattle.machine.specs.Machine.{Machine, at, top, move, budget, halt}
-use Rattle.machine.specs.Instructions.{Count, Reserve, SetFrame, Release, Return, act, count-call, step, steps}
+use Rattle.machine.specs.Instructions.{Release, Return, count-call, step}
 use Rattle.semantics.specs.Runs.{State, Result, value, no-room, no-calls, bad, with-left, spend, enter, eval}
-use Rattle.semantics.specs.Relation.{total, Represents, CallSite, Entered, Returned, Outcome}
-use Rattle.compiler.specs.Instructions.{plain, instr, Place, placed-word}
+use Rattle.semantics.specs.Relation.{total, CallSite, Entered, Returned, Outcome}
+use Rattle.compiler.specs.Instructions.{plain, instr, Place}
 use Rattle.compiler.specs.Code.{size, code-expr, code-proc}
 use Rattle.compiler.specs.Simulation.{Calls, Calls-do, Working}
-use Rattle.compiler.proofs.Steps.{Goes, goes-on, goes-step, halts-step, halts-after}
-use Rattle.compiler.proofs.Lying.{At, Here, split-expr}
+use Rattle.compiler.proofs.Steps.{Goes, goes-on, goes-step, halts-after}
+use Rattle.compiler.proofs.Lying.{Here, split-expr}
 use Rattle.compiler.proofs.Stack.{Stacked}
 use Rattle.compiler.proofs.Acts.{top-is}
 use Rattle.compiler.proofs.Outcomes.{Comes-to, act-is, goes-act}
@@ -47,7 +47,7 @@ module _ (shape : List ℕ) (site : CallSite) (room : ℕ) (vs : List ℕ) (q : 
     free = refl;
     room-word = omega arith;
     memory = omega arith;
-    addressable = entered .addressable
+    addressable = entered .addressable;
   }
 
   ends : (a b v : ℕ) (t : State) (m′ : Machine) → Stacked shape b (v ∷ []) t (begun site room q n m a) m′ → Returned shape site v t m (ended q m′)
@@ -58,7 +58,7 @@ module _ (shape : List ℕ) (site : CallSite) (room : ℕ) (vs : List ℕ) (q : 
       tape = c .represents .tape;
       outs = c .represents .outs;
       left = c .represents .left;
-      running = refl
+      running = refl;
     };
     pc = back;
     fp = caller;
@@ -66,15 +66,18 @@ module _ (shape : List ℕ) (site : CallSite) (room : ℕ) (vs : List ℕ) (q : 
     value = result;
     free = omega arith;
     memory = length-set (m′ .memory) (m′ .fp) (top m′) ∙ c .memory;
-    below = λ j h k. getD-set-other (m′ .memory) (m′ .fp) j (top m′) 0 (omega arith) ∙ c .below j h (omega arith)
+    below = λ j h k. getD-set-other (m′ .memory) (m′ .fp) j (top m′) 0 (omega arith) ∙ c .below j h (omega arith);
   }
     where
       behind : (at m (site .base + length vs) ≡ site .back) × (at m (site .base + (length vs + 1)) ≡ site .fp)
       behind = entered .return (omega arith)
+
       back : at m′ (m′ .fp + q .args) ≡ site .back
       back = let e : m′ .fp + q .args ≡ site .base + length vs = omega arith in rw e (c .below (site .base + length vs) (omega arith) (omega arith) ∙ behind .0)
+
       caller : at m′ (m′ .fp + (q .args + 1)) ≡ site .fp
       caller = let e : m′ .fp + (q .args + 1) ≡ site .base + (length vs + 1) = omega arith in rw e (c .below (site .base + (length vs + 1)) (omega arith) (omega arith) ∙ behind .1)
+
       result : getD (set (m′ .memory) (m′ .fp) (top m′)) (site .base) 0 ≡ v
       result = rw (← c .fp) (getD-set-same (m′ .memory) (m′ .fp) (top m′) 0 (omega arith) ∙ top-is v c)
 
@@ -82,7 +85,6 @@ module _ (shape : List ℕ) (site : CallSite) (room : ℕ) (vs : List ℕ) (q : 
 module _ (u : SourceUnit) (code shape : List ℕ) (i : ℕ) (l : Place) (short : length code < 2 ^ 32) (unit : nth shape i ≡ Some (u .words)) (words : l .words ≡ total (take i shape))
     (a : ℕ) (q : Proc) (here : Here code l a (code-proc u a q)) (f : T (formed u (q .args) (q .body)))
     (site : CallSite) (room : ℕ) (vs : List ℕ) (arity : length vs ≡ q .args) (s : State) (m : Machine) (entered : Entered shape (l .code + a) site room vs s m) where
-
   at-body : Here code l (a + 6) (code-expr u (a + 6) (q .body)) × Here code l (a + 6 + size (q .body)) (instr Release (plain (frame q)) ∷ instr Return (plain (q .args)) ∷ [])
   at-body = split-expr code l u (q .body) _ (a + 6) (subst (λ (b : ℕ). Here code l b (code-expr u (a + 6) (q .body) ++ (instr Release (plain (frame q)) ∷ instr Return (plain (q .args)) ∷ []))) (omega arith) (here .1 .1 .1))
 
@@ -98,8 +100,10 @@ module _ (u : SourceUnit) (code shape : List ℕ) (i : ℕ) (l : Place) (short :
     where
       m₁ : Machine
       m₁ = budget m (m .free) n
+
       m₂ : Machine
       m₂ = budget m₁ (room - frame q) n
+
       third : step code m₂ ≡ begun site room q n m (l .code + (a + 6))
       third = act-is code shape l m₂ (here .1 .1 .0) refl (omega arith) ∙ ap₂ (λ (pc fp : ℕ). move m₂ pc fp (m .sp) (m .memory)) (omega arith) (omega arith)
 

@@ -1,11 +1,10 @@
 -- The theorem on expressions, as its statement has it.
-use mathlib.Core.Path.{_≡_, refl, sym, ap, subst, _∙_}
+use mathlib.Core.Path.{sym, subst}
 use mathlib.Core.List.{List, [], _∷_}
 use Prim.Native.Nat.{ℕ, _+_}
 use native.Mathlib.Nat.{add-zero}
 use native.Mathlib.Omega.{arith}
 use Rattle.machine.specs.Machine.{Machine, at}
-use Rattle.machine.specs.Instructions.{steps}
 use Rattle.semantics.specs.Runs.{State, Result, value, no-room, no-calls, bad, eval}
 use Rattle.compiler.specs.Code.{size, code-expr}
 use Rattle.compiler.specs.Simulation.{Worked, Comes, Simulates-expressions}
@@ -23,7 +22,7 @@ worked {v = v} {m = m} {m′ = m′} a = record {
   value = rw add-zero at (a .values 0 (omega arith));
   free = a .free;
   memory = a .memory;
-  below = a .below
+  below = a .below;
 }
 
 comes : (code shape : List ℕ) (p left : ℕ) (m : Machine) (r : Result) → Comes-to code shape p left m m r → Comes code shape p left m r

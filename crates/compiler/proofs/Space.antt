@@ -1,6 +1,6 @@
 -- The row of a unit's object has words only, and is short.
-use mathlib.Core.Path.{_≡_, refl, sym, ap, subst, _∙_}
-use mathlib.Core.Bool.{Bool, true, false, _&&_}
+use mathlib.Core.Path.{_≡_, refl, sym, subst}
+use mathlib.Core.Bool.{_&&_}
 use mathlib.Core.List.{List, [], _∷_, _++_}
 use Prim.Native.Nat.{ℕ, zero, suc, _+_, _*_, _^_, _≤_, _<_}
 use native.Mathlib.Omega.{arith}
@@ -10,14 +10,14 @@ use Rattle.std.specs.Finite.{nth}
 use Rattle.rows.specs.Units.{Proc, SourceUnit}
 use Rattle.rows.specs.Formed.{depth}
 use Rattle.rows.specs.Objects.{Fit, Offer}
-use Rattle.rows.specs.UnitRows.{rowWants, rowProcs, rowUnit, small-procs, all-below, Unit-row}
+use Rattle.rows.specs.UnitRows.{rowWants, rowUnit, small-procs, all-below, Unit-row}
 use Rattle.rows.specs.ObjectRows.{rowOffers, rowFits, rowObject}
 use Rattle.machine.specs.Instructions.{Opcode, Halt, Push, Arg, Load, Store, Operate, JumpIfZero, Jump, Call, SetFrame, Return, Out, Next, Pop, Reserve, Release, Count}
 use Rattle.compiler.specs.Instructions.{Operand, plain, in-code, in-words, of-want, Instruction, instr, opcode-number, operand-word, code-words, fit-operand, code-fits}
-use Rattle.compiler.specs.Code.{proc-at, code-unit, proc-args, offers-of, object}
+use Rattle.compiler.specs.Code.{code-unit, proc-args, offers-of, object}
 use Rattle.compiler.specs.Correct.{Fits-space}
 use Rattle.compiler.proofs.Expressions.{apart, together}
-use Rattle.compiler.proofs.Lengths.{size-procs, length-procs, proc-at-most, size-procs-row}
+use Rattle.compiler.proofs.Lengths.{size-procs, proc-at-most}
 use Rattle.compiler.proofs.Operands.{Sane, All-sane}
 use Rattle.compiler.proofs.Correct.{row-length, code-short, unit-sane}
 use Rattle.compiler.proofs.Weights.{short-row}
@@ -113,12 +113,28 @@ module _ (s : List ℕ) (u : SourceUnit) (r : Unit-row s u) (words : T (all-belo
       (omega arith, omega arith, omega arith)
 
   object-words : Words (rowObject (object u))
-  object-words =
-      (unit-words .0, (omega arith, (omega arith, (lengths .0, (lengths .1, (lengths .2,
-      words-both (rowWants (u .wants)) _ (words-first (rowWants (u .wants)) _ (unit-words .1 .1 .1 .1 .1))
-      (words-both (rowOffers (offers-of u (u .offers))) _ (offers-small u (u .offers) (r .procs) (r .proc-sizes) (omega (arith, row-length s u r, code-short s u r)) (r .offers))
-      (words-both (code-words (code-unit u)) _ (code-words-small (length (u .wants)) (code-unit u) (unit-sane s u r))
-      (fits-small (length (u .wants)) 0 (code-unit u) (r .wants) (omega (arith, lengths .1)) (unit-sane s u r))))))))))
+  object-words = (
+    unit-words .0,
+    (
+      omega arith,
+      (
+        omega arith,
+        (
+          lengths .0,
+          (
+            lengths .1,
+            (
+              lengths .2,
+              words-both (rowWants (u .wants)) _ (words-first (rowWants (u .wants)) _ (unit-words .1 .1 .1 .1 .1))
+                  (words-both (rowOffers (offers-of u (u .offers))) _ (offers-small u (u .offers) (r .procs) (r .proc-sizes) (omega (arith, row-length s u r, code-short s u r)) (r .offers))
+                  (words-both (code-words (code-unit u)) _ (code-words-small (length (u .wants)) (code-unit u) (unit-sane s u r))
+                  (fits-small (length (u .wants)) 0 (code-unit u) (r .wants) (omega (arith, lengths .1)) (unit-sane s u r)))),
+            ),
+          ),
+        ),
+      ),
+    ),
+  )
 
 pub fits-space : Fits-space
 fits-space s u r words = record { words = words-below (rowObject (object u)) (object-words s u r words); short = omega (arith, short-row s u r) }

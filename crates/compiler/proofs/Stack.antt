@@ -5,8 +5,8 @@ use mathlib.Core.List.{List, [], _∷_, _++_}
 use Prim.Native.Nat.{ℕ, zero, suc, _+_, _-_, _≤_, _<_}
 use native.Mathlib.Nat.{add-zero}
 use native.Mathlib.Omega.{arith}
-use lib.ListN.{length, getD, take, set, length-append, length-set}
-use lib.Seq.{take-set-le, getD-set-same, getD-set-other}
+use lib.ListN.{length, getD, set, length-append, length-set}
+use lib.Seq.{getD-set-same, getD-set-other}
 use Rattle.std.proofs.shelf.Lists.{getD-append-left, getD-append-right}
 use Rattle.std.proofs.shelf.Tests.{cases-lt}
 use Rattle.machine.specs.Machine.{Machine, at}
@@ -37,11 +37,12 @@ append {shape} {vs = vs} {ws = ws} {m = m} {m₁ = m₁} {m₂ = m₂} high a b 
   values = λ j h. ⊎-elim (first j) (second j (rw length-append at h)) (cases-lt j (length vs));
   free = b .free ∙ a .free;
   memory = b .memory ∙ a .memory;
-  below = λ j h k. b .below j h (omega arith) ∙ a .below j h k
+  below = λ j h k. b .below j h (omega arith) ∙ a .below j h k;
 }
   where
     first : (j : ℕ) → j < length vs → at m₂ (m .sp + j) ≡ getD (vs ++ ws) j 0
     first j h = b .below (m .sp + j) (omega arith) (omega arith) ∙ a .values j h ∙ sym (getD-append-left vs ws 0 j h)
+
     second : (j : ℕ) → j < length vs + length ws → length vs ≤ j → at m₂ (m .sp + j) ≡ getD (vs ++ ws) j 0
     second j h k =
         let e : m .sp + j ≡ m₁ .sp + (j - length vs) = omega arith in
@@ -58,7 +59,7 @@ settled {shape} {m = m} {m₁ = m₁} {m₂ = m₂} v high inside a e sp fp free
   values = here;
   free = free ∙ a .free;
   memory = ap length e ∙ length-set (m₁ .memory) (m .sp) v ∙ a .memory;
-  below = λ j h k. ap (λ (xs : List ℕ). getD xs j 0) e ∙ getD-set-other (m₁ .memory) (m .sp) j v 0 (omega arith) ∙ a .below j h k
+  below = λ j h k. ap (λ (xs : List ℕ). getD xs j 0) e ∙ getD-set-other (m₁ .memory) (m .sp) j v 0 (omega arith) ∙ a .below j h k;
 }
   where
     here : (j : ℕ) → j < 1 → at m₂ (m .sp + j) ≡ getD (v ∷ []) j 0
@@ -77,7 +78,7 @@ kept {m = m} ws high a few same above len sp fp free r = record {
   values = λ j h. above (m .sp + j) (omega arith) ∙ a .values j (omega arith) ∙ same j h;
   free = free ∙ a .free;
   memory = len ∙ a .memory;
-  below = λ j h k. above j h ∙ a .below j h k
+  below = λ j h k. above j h ∙ a .below j h k;
 }
 
 pub at-place : {shape : List ℕ} {p q : ℕ} {vs : List ℕ} {s : State} {m m′ : Machine} → Stacked shape p vs s m m′ → p ≡ q → Stacked shape q vs s m m′

@@ -1,5 +1,5 @@
 -- Runs of the machine, one after the other.
-use mathlib.Core.Path.{_≡_, refl, sym, ap, _∙_}
+use mathlib.Core.Path.{_≡_, refl, ap, _∙_}
 use mathlib.Core.List.{List}
 use Prim.Native.Nat.{ℕ, zero, suc, _+_}
 use native.Mathlib.Nat.{zero-add, suc-add}
@@ -7,7 +7,7 @@ use lib.ListN.{getD}
 use Rattle.std.specs.declared.option.Option.the-variants.{Some}
 use Rattle.std.specs.Finite.{nth}
 use Rattle.machine.specs.Machine.{Machine}
-use Rattle.machine.specs.Instructions.{Opcode, Halt, Push, Arg, Load, Store, Operate, JumpIfZero, Jump, Call, SetFrame, Return, Out, Next, Pop, Reserve, Release, Count, opcodes, act, act-at, decode, unless-halted, step, steps}
+use Rattle.machine.specs.Instructions.{Opcode, Halt, Push, Arg, Load, Store, Operate, JumpIfZero, Jump, Call, SetFrame, Return, Out, Next, Pop, Reserve, Release, Count, opcodes, act, step, steps}
 use Rattle.semantics.specs.Relation.{Halts}
 use Rattle.compiler.specs.Instructions.{opcode-number}
 

@@ -1,24 +1,23 @@
 -- All procedures of a unit do what they should, by how deep calls stand in one another.
 use mathlib.Core.Path.{_≡_, refl, sym, ap, subst, subst₂, _∙_}
 use mathlib.Core.Bool.{Bool, true, false, cond}
-use mathlib.Core.List.{List, [], _∷_, _++_}
-use Prim.Native.Nat.{ℕ, zero, suc, _+_, _-_, _%_, _^_, _≤_, _<_}
+use mathlib.Core.List.{List, [], _∷_}
+use Prim.Native.Nat.{ℕ, zero, suc, _+_, _-_, _<_}
 use native.Mathlib.Nat.{add-zero}
 use native.Mathlib.Omega.{arith}
-use lib.ListN.{length, getD, take, drop}
+use lib.ListN.{length, getD, take}
 use lib.Dec.{T, ltb}
 use Rattle.std.specs.declared.option.Option.{Option}
 use Rattle.std.specs.declared.option.Option.the-variants.{Some, None}
 use Rattle.std.specs.Options.{mapped}
 use Rattle.std.specs.Finite.{nth}
-use Rattle.rows.specs.Units.{Want, Proc, SourceUnit, arity}
+use Rattle.rows.specs.Units.{Want, Proc, SourceUnit}
 use Rattle.rows.specs.Frames.{frame}
 use Rattle.rows.specs.Formed.{formed, formed-procs}
-use Rattle.machine.specs.Machine.{Machine}
-use Rattle.semantics.specs.Runs.{State, Result, spend, enter, eval}
-use Rattle.semantics.specs.Relation.{total, Imports, run-unit, CallSite, Entered, Outcome, Simulates, Placed}
-use Rattle.compiler.specs.Instructions.{Instruction, of-want, in-code, code-words, Place, placed-word, placed-words}
-use Rattle.compiler.specs.Code.{size, size-proc, proc-at, callee, code-expr, code-proc, code-procs, code-unit, object}
+use Rattle.semantics.specs.Runs.{spend, enter, eval}
+use Rattle.semantics.specs.Relation.{total, Imports, run-unit, Entered, Outcome, Simulates, Placed}
+use Rattle.compiler.specs.Instructions.{of-want, in-code, code-words, Place, placed-word}
+use Rattle.compiler.specs.Code.{size-proc, proc-at, code-proc, code-procs, code-unit, object}
 use Rattle.compiler.specs.Simulation.{Lies, Calls, Calls-do}
 use Rattle.compiler.proofs.Placing.{length-placed, fit-code}
 use Rattle.compiler.proofs.Lying.{Here, here, here-split, length-words-append, length-expr}

@@ -1,27 +1,15 @@
 -- How long the row of a unit's object is.
-use mathlib.Core.Path.{_≡_, refl, sym, ap, subst, _∙_}
-use mathlib.Core.Bool.{Bool, true, false, _&&_, _||_}
+use mathlib.Core.Path.{_≡_, refl}
 use mathlib.Core.List.{List, [], _∷_, _++_}
-use Prim.Native.Nat.{ℕ, zero, suc, _+_, _*_, _^_, _≤_, _<_}
+use Prim.Native.Nat.{ℕ, _+_, _*_, _≤_}
 use native.Mathlib.Omega.{arith}
 use lib.ListN.{length, length-append}
-use lib.Dec.{T, ltb, leb, ltb→lt, lt→ltb, leb→le}
-use Rattle.std.specs.declared.option.Option.{Option}
-use Rattle.std.specs.declared.option.Option.the-variants.{Some, None}
-use Rattle.std.specs.Finite.{nth}
-use Rattle.rows.specs.Units.{Expr, num, arg, word, op, if, keep, then, out, next, call, Exprs, nil, cons, Want, Proc, SourceUnit}
-use Rattle.rows.specs.Formed.{depth}
-use Rattle.rows.specs.Objects.{Fit, Offer, Object}
-use Rattle.rows.specs.UnitRows.{rowExpr, rowExprs, rowWants, rowProcs, rowUnit, small-procs, all-below, Unit-row}
+use Rattle.rows.specs.Units.{Expr, num, arg, word, op, if, keep, then, out, next, call, Exprs, nil, cons, Proc, SourceUnit}
+use Rattle.rows.specs.UnitRows.{rowExpr, rowExprs, rowProcs, Unit-row}
 use Rattle.rows.specs.ObjectRows.{rowOffers, rowFits, rowObject}
-use Rattle.machine.specs.Instructions.{Opcode, Halt, Push, Arg, Load, Store, Operate, JumpIfZero, Jump, Call, SetFrame, Return, Out, Next, Pop, Reserve, Release, Count}
-use Rattle.compiler.specs.Instructions.{Operand, plain, in-code, in-words, of-want, Instruction, instr, opcode-number, operand-word, code-words, fit-operand, code-fits}
-use Rattle.compiler.specs.Code.{callee, code-expr, code-args, code-proc, code-procs, size, size-proc, proc-at, code-unit, proc-args, offers-of, object}
-use Rattle.compiler.specs.Correct.{Has-space, Fits-space}
-use Rattle.compiler.proofs.Expressions.{apart, together}
-use Rattle.compiler.proofs.Lengths.{size-procs, length-procs, proc-at-most, size-procs-row}
-use Rattle.compiler.proofs.Operands.{Sane, All-sane}
-use Rattle.compiler.proofs.Correct.{row-length, code-short, unit-sane}
+use Rattle.compiler.specs.Instructions.{Operand, plain, in-code, in-words, of-want, Instruction, instr, code-words, code-fits}
+use Rattle.compiler.specs.Code.{callee, code-expr, code-args, code-proc, code-procs, size, size-proc, code-unit, offers-of, object}
+use Rattle.compiler.proofs.Correct.{row-length}
 
 -- how many words an operand's instruction takes of the object's row, with its fit
 abbrev weight-operand : Operand → ℕ
