@@ -84,7 +84,8 @@ pub branches : {shape : List ℕ} {p : ℕ} {s : State} {m m₁ : Machine} (n : 
 branches {shape} {s = s} {m = m} {m₁ = m₁} n high a = subst (λ (x : ℕ). Stacked shape n [] s m (branch m₁ x n)) (sym (top-is 0 a))
     (kept [] high a (omega arith) (λ j h. absurd (omega arith)) (λ j h. refl) refl (omega arith) refl refl (moved _ _ _ (a .represents)))
 
-pub falls-through : {shape : List ℕ} {p : ℕ} {s : State} {m m₁ : Machine} (v n : ℕ) → total shape ≤ m .sp → Stacked shape p (suc v ∷ []) s m m₁ → Stacked shape (m₁ .pc + 2) [] s m (act JumpIfZero n m₁)
+pub falls-through : {shape : List ℕ} {p : ℕ} {s : State} {m m₁ : Machine} (v n : ℕ) → total shape ≤ m .sp → Stacked shape p (suc v ∷ []) s m m₁ →
+    Stacked shape (m₁ .pc + 2) [] s m (act JumpIfZero n m₁)
 falls-through {shape} {s = s} {m = m} {m₁ = m₁} v n high a = subst (λ (x : ℕ). Stacked shape (m₁ .pc + 2) [] s m (branch m₁ x n)) (sym (top-is (suc v) a))
     (kept [] high a (omega arith) (λ j h. absurd (omega arith)) (λ j h. refl) refl (omega arith) refl refl (moved _ _ _ (a .represents)))
 

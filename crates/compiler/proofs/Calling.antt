@@ -28,7 +28,8 @@ module _ (code shape : List ℕ) (l : Place) (short : length code < 2 ^ 32) wher
 
     -- a call writes two words on the stack and nothing else
     other : (j : ℕ) → j < m₁ .sp → at called j ≡ at m₁ j
-    other j h = getD-set-other (set (m₁ .memory) (m₁ .sp) ((m₁ .pc + 2) % 2 ^ 32)) (m₁ .sp + 1) j (m₁ .fp % 2 ^ 32) 0 (omega arith) ∙ getD-set-other (m₁ .memory) (m₁ .sp) j ((m₁ .pc + 2) % 2 ^ 32) 0 (omega arith)
+    other j h = getD-set-other (set (m₁ .memory) (m₁ .sp) ((m₁ .pc + 2) % 2 ^ 32)) (m₁ .sp + 1) j (m₁ .fp % 2 ^ 32) 0 (omega arith) ∙
+        getD-set-other (m₁ .memory) (m₁ .sp) j ((m₁ .pc + 2) % 2 ^ 32) 0 (omega arith)
 
     same-length : length (called .memory) ≡ length (m₁ .memory)
     same-length = simp length-set
@@ -37,7 +38,8 @@ module _ (code shape : List ℕ) (l : Place) (short : length code < 2 ^ 32) wher
     back h =
         let e : m .sp + length ws ≡ m₁ .sp = omega arith in
         let f : (m₁ .pc + 2) % 2 ^ 32 ≡ l .code + (a + 2) = omega arith in
-        rw e (getD-set-other (set (m₁ .memory) (m₁ .sp) ((m₁ .pc + 2) % 2 ^ 32)) (m₁ .sp + 1) (m₁ .sp) (m₁ .fp % 2 ^ 32) 0 (omega arith) ∙ getD-set-same (m₁ .memory) (m₁ .sp) ((m₁ .pc + 2) % 2 ^ 32) 0 (omega arith) ∙ f)
+        rw e (getD-set-other (set (m₁ .memory) (m₁ .sp) ((m₁ .pc + 2) % 2 ^ 32)) (m₁ .sp + 1) (m₁ .sp) (m₁ .fp % 2 ^ 32) 0 (omega arith) ∙
+        getD-set-same (m₁ .memory) (m₁ .sp) ((m₁ .pc + 2) % 2 ^ 32) 0 (omega arith) ∙ f)
 
     caller : m .sp + (length ws + 1) < length (m₁ .memory) → at called (m .sp + (length ws + 1)) ≡ m .fp
     caller h =
@@ -49,7 +51,8 @@ module _ (code shape : List ℕ) (l : Place) (short : length code < 2 ^ 32) wher
     enters = record {
       represents = record {
         sized = c .represents .sized;
-        words = take-set-le (total shape) (set (m₁ .memory) (m₁ .sp) ((m₁ .pc + 2) % 2 ^ 32)) (m₁ .sp + 1) (m₁ .fp % 2 ^ 32) (omega arith) ∙ take-set-le (total shape) (m₁ .memory) (m₁ .sp) ((m₁ .pc + 2) % 2 ^ 32) (omega arith) ∙ c .represents .words;
+        words = take-set-le (total shape) (set (m₁ .memory) (m₁ .sp) ((m₁ .pc + 2) % 2 ^ 32)) (m₁ .sp + 1) (m₁ .fp % 2 ^ 32) (omega arith) ∙
+            take-set-le (total shape) (m₁ .memory) (m₁ .sp) ((m₁ .pc + 2) % 2 ^ 32) (omega arith) ∙ c .represents .words;
         tape = c .represents .tape;
         outs = c .represents .outs;
         left = c .represents .left;

@@ -14,7 +14,7 @@ use Rattle.semantics.specs.Relation.{run-unit, Simulates, Simulates-unit, Objec
 use Rattle.compiler.specs.Instructions.{Operand, plain, in-code, in-words, of-want, Instruction, instr, code-words, fit-operand, code-fits}
 use Rattle.compiler.specs.Code.{code-unit, offers-of, object}
 use Rattle.compiler.specs.Correct.{Compiles}
-use Rattle.compiler.proofs.Expressions.{together}
+use Rattle.compiler.proofs.Tests.{together}
 use Rattle.compiler.proofs.Units.{own-do}
 use Rattle.compiler.proofs.Offers.{offers-all, offers-found, offers-nothing-else, offers-begin}
 use Rattle.compiler.proofs.Lengths.{size-procs, proc-at-most, size-procs-row}
@@ -39,10 +39,12 @@ module _ (s : List ℕ) (u : SourceUnit) (r : Unit-row s u) where
   code-short = size-procs-row (u .procs)
 
   pub unit-sane : All-sane (length (u .wants)) (code-unit u)
-  unit-sane = procs-sane u (r .words) (λ n. omega (arith, proc-at-most (u .procs) n, row-length, code-short)) (u .procs) 0 (r .bodies) (r .proc-sizes) (omega (arith, row-length)) (omega (arith, row-length, code-short))
+  unit-sane = procs-sane u (r .words) (λ n. omega (arith, proc-at-most (u .procs) n, row-length, code-short)) (u .procs) 0 (r .bodies) (r .proc-sizes)
+      (omega (arith, row-length)) (omega (arith, row-length, code-short))
 
   accepted : T (sound (object u))
-  accepted = together (leb (u .words) 4096) _ (le→leb (u .words) 4096 (r .words)) (together (offers-inside (length (code-words (code-unit u))) (offers-of u (u .offers))) _ (offers-begin u (u .offers) (r .offers))
+  accepted = together (leb (u .words) 4096) _ (le→leb (u .words) 4096 (r .words))
+      (together (offers-inside (length (code-words (code-unit u))) (offers-of u (u .offers))) _ (offers-begin u (u .offers) (r .offers))
       (fits-in-code (length (code-words (code-unit u))) (length (u .wants)) 0 (code-unit u) unit-sane (omega arith)))
 
   simulates : Simulates-unit u (object u)

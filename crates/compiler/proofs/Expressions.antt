@@ -1,6 +1,6 @@
 -- Code for an expression does what the expression does, as long as its calls do what they should.
 use mathlib.Core.Path.{_≡_, refl, ap}
-use mathlib.Core.Bool.{Bool, true, false, _&&_}
+use mathlib.Core.Bool.{_&&_}
 use mathlib.Core.List.{List, _∷_}
 use Prim.Native.Nat.{ℕ, _+_, _^_, _≤_, _<_}
 use native.Mathlib.Omega.{arith}
@@ -19,19 +19,12 @@ use Rattle.semantics.specs.Relation.{total}
 use Rattle.compiler.specs.Instructions.{Place}
 use Rattle.compiler.specs.Code.{size, size-args, callee, code-expr, code-args}
 use Rattle.compiler.specs.Simulation.{Calls, Calls-do, Working}
+use Rattle.compiler.proofs.Tests.{apart}
 use Rattle.compiler.proofs.Lying.{At, Here, here-inside, split-expr, split-args, length-expr}
 use Rattle.compiler.proofs.Stack.{nothing}
 use Rattle.compiler.proofs.Outcomes.{Come-to, fewer, ends-at, come-at, goes-with-all, first-goes, more-go}
 use Rattle.compiler.proofs.Constructs.{working, narrow, Does, num-does, arg-does, word-does, op-does, if-does, keep-does, then-does, out-does, next-does}
 use Rattle.compiler.proofs.Calling.{enters, returns}
-
-pub apart : (a b : Bool) → T (a && b) → T a × T b
-apart true b h = (tt, h)
-apart false b h = absurd h
-
-pub together : (a b : Bool) → T a → T b → T (a && b)
-together true b h k = k
-together false b h k = h
 
 takes-is : (o : Option ℕ) (n : ℕ) → T (takes o n) → o ≡ Some n
 takes-is None n h = absurd h
@@ -43,18 +36,23 @@ module _ (u : SourceUnit) (code shape : List ℕ) (i : ℕ) (l : Place) (short :
   All-do es a = (s : State) (m : Machine) → s .left ≤ left → Working shape (l .code + a) vs room (heights es) s m →
       Come-to code shape (l .code + (a + size-args es)) (count es) (s .left) m m (evals x i vs es s)
 
-  call-does : (c : ℕ) (es : Exprs) (a : ℕ) → T (takes (arity u c) (count es)) → At code l (a + size-args es) Call (callee u c) → All-do es a → Does code shape i l vs room left x (call c es) a
+  call-does : (c : ℕ) (es : Exprs) (a : ℕ) → T (takes (arity u c) (count es)) → At code l (a + size-args es) Call (callee u c) → All-do es a →
+      Does code shape i l vs room left x (call c es) a
   call-does c es a f there d s m b w =
-      goes-with-all code shape (l .code + (a + size-args es)) (l .code + (a + (size-args es + 2))) (count es) (s .left) (s .left) m m m (evals x i vs es s) _ (d s m b (narrow (heights es) w (omega arith)))
+      goes-with-all code shape (l .code + (a + size-args es)) (l .code + (a + (size-args es + 2))) (count es) (s .left) (s .left) m m m (evals x i vs es s) _
+      (d s m b (narrow (heights es) w (omega arith)))
       (λ ws t m₁ few e k. fewer code shape (l .code + (a + (size-args es + 2))) (t .left) (s .left) m m₁ (x c ws t) few
       (ends-at code shape (l .code + (a + size-args es + 2)) (l .code + (a + (size-args es + 2))) (t .left) m m₁ (x c ws t) (omega arith)
       (returns code shape l short (a + size-args es) (callee u c) there vs ws (l .code + a) room (height (call c es)) s t m m₁ w k (x c ws t)
-      (calls c (count es) (takes-is (arity u c) (count es) f) _ ws t _ e (omega arith) (enters code shape l short (a + size-args es) (callee u c) there vs ws (l .code + a) room (height (call c es)) s t m m₁ w k)))))
+      (calls c (count es) (takes-is (arity u c) (count es) f) _ ws t _ e (omega arith)
+      (enters code shape l short (a + size-args es) (callee u c) there vs ws (l .code + a) room (height (call c es)) s t m m₁ w k)))))
 
   cons-do : (e : Expr) (es : Exprs) (a : ℕ) → Does code shape i l vs room left x e a → All-do es (a + size e) → All-do (cons e es) a
   cons-do e es a de des s m b w =
-      first-goes code shape (l .code + (a + size e)) (l .code + (a + (size e + size-args es))) (1 + count es) (s .left) (s .left) m m m (eval x i vs e s) _ (de s m b (narrow (height e) w (omega arith)))
-      (λ v t m₁ few c. come-at code shape (l .code + (a + size e + size-args es)) (l .code + (a + (size e + size-args es))) (1 + count es) (s .left) m m₁ (more (evals x i vs es t) (λ ws r. values (v ∷ ws) r)) (omega arith)
+      first-goes code shape (l .code + (a + size e)) (l .code + (a + (size e + size-args es))) (1 + count es) (s .left) (s .left) m m m (eval x i vs e s) _
+      (de s m b (narrow (height e) w (omega arith)))
+      (λ v t m₁ few c. come-at code shape (l .code + (a + size e + size-args es)) (l .code + (a + (size e + size-args es))) (1 + count es) (s .left) m m₁
+      (more (evals x i vs es t) (λ ws r. values (v ∷ ws) r)) (omega arith)
       (more-go code shape (l .code + (a + size e)) (l .code + (a + size e + size-args es)) (count es) (t .left) (s .left) v m m₁ (evals x i vs es t) (omega arith) few c
       (des t m₁ (omega arith) (working (heights es) w (omega arith) c))))
 

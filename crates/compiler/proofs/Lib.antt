@@ -1,3 +1,4 @@
+pub mod Tests
 pub mod Steps
 pub mod Placing
 pub mod Lying
@@ -17,3 +18,4 @@ pub mod Operands
 pub mod Correct
 pub mod Weights
 pub mod Space
+pub mod Worked

@@ -89,8 +89,10 @@ here-inside code l [] a b h = omega arith
 here-inside code l (instr o x ∷ is) a b h = omega (arith, here-inside code l is (a + 2) (omega arith) (h .1))
 
 -- an expression's code, and what stands behind it
-pub split-expr : (code : List ℕ) (l : Place) (u : SourceUnit) (e : Expr) (js : List Instruction) (a : ℕ) → Here code l a (code-expr u a e ++ js) → Here code l a (code-expr u a e) × Here code l (a + size e) js
+pub split-expr : (code : List ℕ) (l : Place) (u : SourceUnit) (e : Expr) (js : List Instruction) (a : ℕ) → Here code l a (code-expr u a e ++ js) →
+    Here code l a (code-expr u a e) × Here code l (a + size e) js
 split-expr code l u e js a h = here-split code l (code-expr u a e) js a (a + size e) (ap (λ (n : ℕ). a + n) (length-expr e u a)) h
 
-pub split-args : (code : List ℕ) (l : Place) (u : SourceUnit) (es : Exprs) (js : List Instruction) (a : ℕ) → Here code l a (code-args u a es ++ js) → Here code l a (code-args u a es) × Here code l (a + size-args es) js
+pub split-args : (code : List ℕ) (l : Place) (u : SourceUnit) (es : Exprs) (js : List Instruction) (a : ℕ) → Here code l a (code-args u a es ++ js) →
+    Here code l a (code-args u a es) × Here code l (a + size-args es) js
 split-args code l u es js a h = here-split code l (code-args u a es) js a (a + size-args es) (ap (λ (n : ℕ). a + n) (length-args es u a)) h

@@ -20,12 +20,8 @@ use Rattle.semantics.specs.Whole.{among, offers-proc}
 use Rattle.compiler.specs.Instructions.{code-words}
 use Rattle.compiler.specs.Code.{size-proc, proc-at, code-proc, code-procs, code-unit, proc-args, offers-of}
 use Rattle.compiler.proofs.Lying.{length-words-append}
-use Rattle.compiler.proofs.Expressions.{apart, together}
-use Rattle.compiler.proofs.Units.{length-proc, none-some}
-
-true-is : (b : Bool) → T b → b ≡ true
-true-is true h = refl
-true-is false h = absurd h
+use Rattle.compiler.proofs.Tests.{apart, together, true-is, also, none-some}
+use Rattle.compiler.proofs.Units.{length-proc}
 
 -- procedure p is there, with k arguments
 pub record Has (u : SourceUnit) (p k : ℕ) : Type 0 where
@@ -42,10 +38,6 @@ has-taken u p k h = go (nth (u .procs) p) refl h
 
 taken-has : (u : SourceUnit) (p k : ℕ) → Has u p k → T (takes (mapped (λ (q : Proc). q .args) (nth (u .procs) p)) k)
 taken-has u p k h = rw (h .there, h .args) (eqb-refl k)
-
-also : (x y : Bool) → T y → T (x || y)
-also true y h = tt
-also false y h = h
 
 nth-there : (qs : List Proc) (n : ℕ) → n < length qs → (q : Proc) × (nth qs n ≡ Some q)
 nth-there [] n h = absurd (omega arith)
@@ -72,7 +64,8 @@ pub record Found (u : SourceUnit) (p k a : ℕ) (os : List ℕ) : Type 0 where
 
 offered-from : (u : SourceUnit) (p k a : ℕ) (os : List ℕ) → T (all-below (length (u .procs)) os) → offered p k (offers-of u os) ≡ Some a → Found u p k a os
 offered-from u p k a [] b h = absurd (none-some a h)
-offered-from u p k a (o ∷ os) b h = go (eqb p o) (eqb k (proc-args (nth (u .procs) o))) refl refl h (offered-from u p k a os (apart (ltb o (length (u .procs))) (all-below (length (u .procs)) os) b .1))
+offered-from u p k a (o ∷ os) b h = go (eqb p o) (eqb k (proc-args (nth (u .procs) o))) refl refl h
+    (offered-from u p k a os (apart (ltb o (length (u .procs))) (all-below (length (u .procs)) os) b .1))
   where
     later : Found u p k a os → Found u p k a (o ∷ os)
     later f = record { listed = also (eqb p o) (among p os) (f .listed); has = f .has; at = f .at }
@@ -91,19 +84,22 @@ offered-from u p k a (o ∷ os) b h = go (eqb p o) (eqb k (proc-args (nth (u .pr
     go false y e g h rest = later (rest h)
 
 pub offers-all : (u : SourceUnit) (p k : ℕ) → T (offers-proc u p k) → (a : ℕ) × (offered p k (offers-of u (u .offers)) ≡ Some a)
-offers-all u p k h = let r = apart (among p (u .offers)) (takes (mapped (λ (q : Proc). q .args) (nth (u .procs) p)) k) h in (proc-at (u .procs) p, offered-in u p k (has-taken u p k (r .1)) (u .offers) (r .0))
+offers-all u p k h = let r = apart (among p (u .offers)) (takes (mapped (λ (q : Proc). q .args) (nth (u .procs) p)) k) h in
+    (proc-at (u .procs) p, offered-in u p k (has-taken u p k (r .1)) (u .offers) (r .0))
 
 pub offers-found : (u : SourceUnit) (p k a : ℕ) → T (all-below (length (u .procs)) (u .offers)) → offered p k (offers-of u (u .offers)) ≡ Some a → Found u p k a (u .offers)
 offers-found u p k a b h = offered-from u p k a (u .offers) b h
 
 pub offers-nothing-else : (u : SourceUnit) (p k a : ℕ) → T (all-below (length (u .procs)) (u .offers)) → offered p k (offers-of u (u .offers)) ≡ Some a → T (offers-proc u p k)
-offers-nothing-else u p k a b h = let f = offers-found u p k a b h in together (among p (u .offers)) (takes (mapped (λ (q : Proc). q .args) (nth (u .procs) p)) k) (f .listed) (taken-has u p k (f .has))
+offers-nothing-else u p k a b h = let f = offers-found u p k a b h in together (among p (u .offers)) (takes (mapped (λ (q : Proc). q .args) (nth (u .procs) p)) k)
+    (f .listed) (taken-has u p k (f .has))
 
 -- a procedure begins in the code
 proc-inside : (u : SourceUnit) (qs : List Proc) (b n : ℕ) → n < length qs → proc-at qs n < length (code-words (code-procs u b qs))
 proc-inside u [] b n h = absurd (omega arith)
 proc-inside u (q ∷ qs) b zero h = rw (length-words-append (code-proc u b q) (code-procs u (b + size-proc q) qs), length-proc u b q) (omega arith)
-proc-inside u (q ∷ qs) b (suc n) h = rw (length-words-append (code-proc u b q) (code-procs u (b + size-proc q) qs), length-proc u b q) (omega (arith, proc-inside u qs (b + size-proc q) n (omega arith)))
+proc-inside u (q ∷ qs) b (suc n) h = rw (length-words-append (code-proc u b q) (code-procs u (b + size-proc q) qs), length-proc u b q)
+    (omega (arith, proc-inside u qs (b + size-proc q) n (omega arith)))
 
 pub offers-begin : (u : SourceUnit) (os : List ℕ) → T (all-below (length (u .procs)) os) → T (offers-inside (length (code-words (code-unit u))) (offers-of u os))
 offers-begin u [] b = tt

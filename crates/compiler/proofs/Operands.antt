@@ -14,7 +14,7 @@ use Rattle.rows.specs.Formed.{takes, formed, formed-args, formed-procs, depth}
 use Rattle.rows.specs.UnitRows.{rowExpr, rowProcs, small-procs}
 use Rattle.compiler.specs.Instructions.{Operand, plain, in-code, in-words, of-want, Instruction, instr}
 use Rattle.compiler.specs.Code.{size, size-args, size-proc, proc-at, callee, code-expr, code-args, code-proc, code-procs}
-use Rattle.compiler.proofs.Expressions.{apart}
+use Rattle.compiler.proofs.Tests.{apart}
 use Rattle.compiler.proofs.Lengths.{height-row, size-procs}
 
 -- a number is a word, and one of k wants is named
@@ -56,7 +56,8 @@ module _ (u : SourceUnit) (words : u .words ≤ 4096) (procs : (n : ℕ) → pro
       expr-sane (word j) a f b = (omega (arith, ltb→lt j (u .words) f), tt)
       expr-sane (op o y z) a f b =
           let r = apart (formed u k y) (formed u k z) f in
-          both-sane (length (u .wants)) (code-expr u a y) _ (expr-sane y a (r .0) (omega arith)) (both-sane (length (u .wants)) (code-expr u (a + size y) z) _ (expr-sane z (a + size y) (r .1) (omega arith)) (number-small o, tt))
+          both-sane (length (u .wants)) (code-expr u a y) _ (expr-sane y a (r .0) (omega arith))
+          (both-sane (length (u .wants)) (code-expr u (a + size y) z) _ (expr-sane z (a + size y) (r .1) (omega arith)) (number-small o, tt))
       expr-sane (if c y z) a f b =
           let r = apart (formed u k c) (formed u k y && formed u k z) f in
           let t = apart (formed u k y) (formed u k z) (r .1) in
@@ -88,14 +89,25 @@ module _ (u : SourceUnit) (words : u .words ≤ 4096) (procs : (n : ℕ) → pro
   proc-sane : (q : Proc) (a : ℕ) → T (formed u (q .args) (q .body)) → q .args ≤ 8 → height (q .body) ≤ 65536 → a + size-proc q < 2 ^ 32 → All-sane (length (u .wants)) (code-proc u a q)
   proc-sane q a f few low b =
       let frame-small : frame q < 2 ^ 32 = omega arith in
-      let args-small : q .args < 2 ^ 32 = omega arith in
-      (omega arith, (frame-small, (args-small, both-sane (length (u .wants)) (code-expr u (a + 6) (q .body)) _ (expr-sane (q .args) few (q .body) (a + 6) f (omega arith)) (frame-small, (args-small, tt)))))
+      let args-small : q .args < 2 ^ 32 = omega arith in (
+        omega arith,
+        (
+          frame-small,
+          (
+            args-small,
+            both-sane (length (u .wants)) (code-expr u (a + 6) (q .body)) _
+                (expr-sane (q .args) few (q .body) (a + 6) f (omega arith)) (frame-small, (args-small, tt)),
+          ),
+        ),
+      )
 
-  pub procs-sane : (qs : List Proc) (a : ℕ) → T (formed-procs u qs) → T (small-procs qs) → length (rowProcs qs) ≤ 65536 → a + size-procs qs < 2 ^ 32 → All-sane (length (u .wants)) (code-procs u a qs)
+  pub procs-sane : (qs : List Proc) (a : ℕ) → T (formed-procs u qs) → T (small-procs qs) → length (rowProcs qs) ≤ 65536 → a + size-procs qs < 2 ^ 32 →
+      All-sane (length (u .wants)) (code-procs u a qs)
   procs-sane [] a f s b c = tt
   procs-sane (q ∷ qs) a f s b c =
       let r = apart (formed u (q .args) (q .body)) (formed-procs u qs) f in
       let t = apart (leb (q .args) 8) (leb (depth (q .body)) 256 && small-procs qs) s in
       let rows : suc (length (rowExpr (q .body)) + length (rowProcs qs)) ≤ 65536 = simp length-append at b in
-      both-sane (length (u .wants)) (code-proc u a q) (code-procs u (a + size-proc q) qs) (proc-sane q a (r .0) (leb→le (q .args) 8 (t .0)) (omega (arith, height-row (q .body))) (omega arith))
+      both-sane (length (u .wants)) (code-proc u a q) (code-procs u (a + size-proc q) qs)
+      (proc-sane q a (r .0) (leb→le (q .args) 8 (t .0)) (omega (arith, height-row (q .body))) (omega arith))
       (procs-sane qs (a + size-proc q) (r .1) (apart (leb (depth (q .body)) 256) (small-procs qs) (t .1) .1) (omega arith) (omega arith))

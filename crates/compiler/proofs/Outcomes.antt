@@ -72,7 +72,8 @@ module _ (code shape : List ℕ) where
   moves-on p q left m₀ m bad c f = tt
 
   -- the stack of m₁ is that of m₀
-  pub rebased : (p q left : ℕ) {s : State} {m₀ m₁ : Machine} (m : Machine) (r : Result) → total shape ≤ m₀ .sp → Stacked shape q [] s m₀ m₁ → Comes-to code shape p left m₁ m r → Comes-to code shape p left m₀ m r
+  pub rebased : (p q left : ℕ) {s : State} {m₀ m₁ : Machine} (m : Machine) (r : Result) → total shape ≤ m₀ .sp → Stacked shape q [] s m₀ m₁ →
+      Comes-to code shape p left m₁ m r → Comes-to code shape p left m₀ m r
   rebased p q left m (value v s) high a (m′, g, b, c) = (m′, g, b, append high a c)
   rebased p q left m (no-room s) high a c = c
   rebased p q left m (no-calls s) high a c = c
@@ -108,7 +109,8 @@ module _ (code shape : List ℕ) where
   first-goes p q n left left′ m₀ m₁ m bad k h f = tt
 
   -- a first argument's value, and those of the others
-  pub more-go : (p q n left left′ v : ℕ) {s : State} (m₀ m₁ : Machine) (r : Results) → total shape ≤ m₀ .sp → left ≤ left′ → Stacked shape p (v ∷ []) s m₀ m₁ → Come-to code shape q n left m₁ m₁ r →
+  pub more-go : (p q n left left′ v : ℕ) {s : State} (m₀ m₁ : Machine) (r : Results) → total shape ≤ m₀ .sp → left ≤ left′ → Stacked shape p (v ∷ []) s m₀ m₁ →
+      Come-to code shape q n left m₁ m₁ r →
       Come-to code shape q (1 + n) left′ m₀ m₁ (more r (λ ws t. values (v ∷ ws) t))
   more-go p q n left left′ v m₀ m₁ (values vs s) high few a (m′, g, b, e, c) = (m′, g, omega arith, omega arith, append high a c)
   more-go p q n left left′ v m₀ m₁ (stop r) high few a h = h
@@ -118,5 +120,6 @@ module _ (code shape : List ℕ) where
   act-is l {o = o} {x = x} m i r e = step-is code m o (placed-word l x) r (rw e (i .opcode)) (rw e (i .operand))
 
   -- one instruction more
-  pub goes-act : (l : Place) {a : ℕ} {o : Opcode} {x : Operand} {vs : List ℕ} {s : State} {m m₁ : Machine} → At code l a o x → Stacked shape (l .code + a) vs s m m₁ → Goes code m₁ (act o (placed-word l x) m₁)
+  pub goes-act : (l : Place) {a : ℕ} {o : Opcode} {x : Operand} {vs : List ℕ} {s : State} {m m₁ : Machine} → At code l a o x →
+      Stacked shape (l .code + a) vs s m m₁ → Goes code m₁ (act o (placed-word l x) m₁)
   goes-act l {o = o} {x = x} {m₁ = m₁} i a = goes-step code m₁ (act o (placed-word l x) m₁) (act-is l m₁ i (a .represents .running) (a .pc))

@@ -8,7 +8,8 @@ use lib.Seq.{set-at, getD-at}
 use Rattle.std.proofs.shelf.Lists.{append-assoc}
 use Rattle.rows.specs.Objects.{Fit}
 use Rattle.linker.specs.Linking.{Laid, fit-all}
-use Rattle.compiler.specs.Instructions.{Operand, plain, in-code, in-words, of-want, Instruction, instr, opcode-number, operand-word, code-words, fit-operand, code-fits, Place, placed-word, placed-words}
+use Rattle.compiler.specs.Instructions.{Operand, plain, in-code, in-words, of-want, Instruction, instr, opcode-number}
+use Rattle.compiler.specs.Instructions.{operand-word, code-words, fit-operand, code-fits, Place, placed-word, placed-words}
 
 pub length-placed : (l : Place) (is : List Instruction) → length (placed-words l is) ≡ length (code-words is)
 length-placed l [] = refl
@@ -21,8 +22,10 @@ laid-place l ps = record { code = l .code-at; words = l .words-at; wants = ps }
 fit-one : (l : Laid) (ps done rest : List ℕ) (a : ℕ) (x : Operand) (fs : List Fit) → length done ≡ a →
     fit-all l ps (fit-operand a x fs) (done ++ (operand-word x ∷ rest)) ≡ fit-all l ps fs (done ++ (placed-word (laid-place l ps) x ∷ rest))
 fit-one l ps done rest a (plain n) fs h = refl
-fit-one l ps done rest a (in-code n) fs h = ap (fit-all l ps fs) (ap (λ (v : ℕ). set (done ++ (n ∷ rest)) a ((v + l .code-at) % 2 ^ 32)) (getD-at done n rest 0 a h) ∙ set-at done n rest _ a h)
-fit-one l ps done rest a (in-words n) fs h = ap (fit-all l ps fs) (ap (λ (v : ℕ). set (done ++ (n ∷ rest)) a ((v + l .words-at) % 2 ^ 32)) (getD-at done n rest 0 a h) ∙ set-at done n rest _ a h)
+fit-one l ps done rest a (in-code n) fs h = ap (fit-all l ps fs) (ap (λ (v : ℕ). set (done ++ (n ∷ rest)) a ((v + l .code-at) % 2 ^ 32))
+    (getD-at done n rest 0 a h) ∙ set-at done n rest _ a h)
+fit-one l ps done rest a (in-words n) fs h = ap (fit-all l ps fs) (ap (λ (v : ℕ). set (done ++ (n ∷ rest)) a ((v + l .words-at) % 2 ^ 32))
+    (getD-at done n rest 0 a h) ∙ set-at done n rest _ a h)
 fit-one l ps done rest a (of-want n) fs h = ap (fit-all l ps fs) (set-at done 0 rest _ a h)
 
 fit-from : (l : Laid) (ps done : List ℕ) (a : ℕ) (is : List Instruction) → length done ≡ a →

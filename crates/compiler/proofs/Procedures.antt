@@ -33,13 +33,30 @@ begun site room q n m a = record { pc = a; fp = site .base; sp = m .sp; memory =
 
 -- the machine that has returned from q, after it was m with the value on the top of the stack
 abbrev ended : Proc → Machine → Machine
-ended q m = record { pc = at m (m .fp + q .args); fp = at m (m .fp + (q .args + 1)); sp = m .fp + 1; memory = set (m .memory) (m .fp) (top m); free = (m .free + frame q) % 2 ^ 32; left = m .left; tape = m .tape; outs = m .outs; halted = 0 }
+ended q m = record {
+  pc = at m (m .fp + q .args);
+  fp = at m (m .fp + (q .args + 1));
+  sp = m .fp + 1;
+  memory = set (m .memory) (m .fp) (top m);
+  free = (m .free + frame q) % 2 ^ 32;
+  left = m .left;
+  tape = m .tape;
+  outs = m .outs;
+  halted = 0;
+}
 
 module _ (shape : List ℕ) (site : CallSite) (room : ℕ) (vs : List ℕ) (q : Proc) (enough : frame q ≤ room) (arity : length vs ≡ q .args) (n p : ℕ) (s : State) (m : Machine)
     (entered : Entered shape p site room vs s m) where
   begins : (a : ℕ) → Working shape a vs (room - frame q) (height (q .body)) (with-left s n) (begun site room q n m a)
   begins a = record {
-    represents = record { sized = entered .represents .sized; words = entered .represents .words; tape = entered .represents .tape; outs = entered .represents .outs; left = refl; running = refl };
+    represents = record {
+      sized = entered .represents .sized;
+      words = entered .represents .words;
+      tape = entered .represents .tape;
+      outs = entered .represents .outs;
+      left = refl;
+      running = refl;
+    };
     pc = refl;
     above = entered .above;
     arguments = entered .arguments;
@@ -86,7 +103,8 @@ module _ (u : SourceUnit) (code shape : List ℕ) (i : ℕ) (l : Place) (short :
     (a : ℕ) (q : Proc) (here : Here code l a (code-proc u a q)) (f : T (formed u (q .args) (q .body)))
     (site : CallSite) (room : ℕ) (vs : List ℕ) (arity : length vs ≡ q .args) (s : State) (m : Machine) (entered : Entered shape (l .code + a) site room vs s m) where
   at-body : Here code l (a + 6) (code-expr u (a + 6) (q .body)) × Here code l (a + 6 + size (q .body)) (instr Release (plain (frame q)) ∷ instr Return (plain (q .args)) ∷ [])
-  at-body = split-expr code l u (q .body) _ (a + 6) (subst (λ (b : ℕ). Here code l b (code-expr u (a + 6) (q .body) ++ (instr Release (plain (frame q)) ∷ instr Return (plain (q .args)) ∷ []))) (omega arith) (here .1 .1 .1))
+  at-body = split-expr code l u (q .body) _ (a + 6) (subst (λ (b : ℕ). Here code l b
+      (code-expr u (a + 6) (q .body) ++ (instr Release (plain (frame q)) ∷ instr Return (plain (q .args)) ∷ []))) (omega arith) (here .1 .1 .1))
 
   counts : (n : ℕ) → s .left ≡ n → step code m ≡ count-call m n
   counts n e = act-is code shape l m (here .0) (entered .represents .running) (entered .pc) ∙ ap (count-call m) (entered .represents .left ∙ e)
@@ -96,7 +114,8 @@ module _ (u : SourceUnit) (code shape : List ℕ) (i : ℕ) (l : Place) (short :
       ap (λ (k : ℕ). cond (ltb k (frame q)) (halt (budget m (m .free) n) 3) (budget (budget m (m .free) n) (k - frame q) n)) (entered .free)
 
   goes-begun : (n : ℕ) → s .left ≡ suc n → ltb room (frame q) ≡ false → Goes code m (begun site room q n m (l .code + (a + 6)))
-  goes-begun n e enough = goes-on (goes-step code m m₁ (counts (suc n) e)) (goes-on (goes-step code m₁ m₂ (reserves n ∙ cond-false (ltb room (frame q)) _ _ enough)) (goes-step code m₂ (begun site room q n m (l .code + (a + 6))) third))
+  goes-begun n e enough = goes-on (goes-step code m m₁ (counts (suc n) e))
+      (goes-on (goes-step code m₁ m₂ (reserves n ∙ cond-false (ltb room (frame q)) _ _ enough)) (goes-step code m₂ (begun site room q n m (l .code + (a + 6))) third))
     where
       m₁ : Machine
       m₁ = budget m (m .free) n
@@ -114,24 +133,33 @@ module _ (u : SourceUnit) (code shape : List ℕ) (i : ℕ) (l : Place) (short :
       m₁ = budget m′ ((m′ .free + frame q) % 2 ^ 32) (m′ .left)
 
   works : (n : ℕ) → s .left ≡ suc n → ltb room (frame q) ≡ false → (r : Result) →
-      Comes-to code shape (l .code + (a + 6 + size (q .body))) n (begun site room q n m (l .code + (a + 6))) (begun site room q n m (l .code + (a + 6))) r → Outcome code shape site (s .left) m r
+      Comes-to code shape (l .code + (a + 6 + size (q .body))) n (begun site room q n m (l .code + (a + 6))) (begun site room q n m (l .code + (a + 6))) r →
+      Outcome code shape site (s .left) m r
   works n e enough (value v t) (m′, g, few, c) = returns (goes-on (goes-begun n e enough) (goes-on g (goes-ended c)))
     where
       returns : Goes code m (ended q m′) → Outcome code shape site (s .left) m (value v t)
-      returns (k, p) = (k, omega arith, subst (λ (r : Machine). Returned shape site v t m r) (sym p) (ends shape site room vs q (ltb-false room (frame q) enough) arity n (l .code + a) s m entered (l .code + (a + 6)) (l .code + (a + 6 + size (q .body))) v t m′ c))
+      returns (k, p) = (
+        k,
+        omega arith,
+        subst (λ (r : Machine). Returned shape site v t m r) (sym p)
+            (ends shape site room vs q (ltb-false room (frame q) enough) arity n (l .code + a) s m entered (l .code + (a + 6)) (l .code + (a + 6 + size (q .body))) v t m′ c),
+      )
   works n e enough (no-room t) h = halts-after (goes-begun n e enough) h
   works n e enough (no-calls t) h = halts-after (goes-begun n e enough) h
   works n e enough bad h = tt
 
   module _ (x : ℕ → Calls) (calls : (n : ℕ) → s .left ≡ suc n → Calls-do u l code shape (room - frame q) n (x (room - frame q))) where
-    enters : (n : ℕ) → s .left ≡ suc n → (b : Bool) → ltb room (frame q) ≡ b → Outcome code shape site (s .left) m (cond b (no-room (with-left s n)) (eval (x (room - frame q)) i vs (q .body) (with-left s n)))
-    enters n e true little = halts-after (goes-step code m (budget m (m .free) n) (counts (suc n) e)) (1, ap (λ (k : Machine). k .halted) stopped, ap (λ (k : Machine). k .outs) stopped ∙ entered .represents .outs)
+    enters : (n : ℕ) → s .left ≡ suc n → (b : Bool) → ltb room (frame q) ≡ b →
+        Outcome code shape site (s .left) m (cond b (no-room (with-left s n)) (eval (x (room - frame q)) i vs (q .body) (with-left s n)))
+    enters n e true little = halts-after (goes-step code m (budget m (m .free) n) (counts (suc n) e))
+        (1, ap (λ (k : Machine). k .halted) stopped, ap (λ (k : Machine). k .outs) stopped ∙ entered .represents .outs)
       where
         stopped : step code (budget m (m .free) n) ≡ halt (budget m (m .free) n) 3
         stopped = reserves n ∙ cond-true (ltb room (frame q)) _ _ little
     enters n e false enough =
         works n e enough (eval (x (room - frame q)) i vs (q .body) (with-left s n))
-        (expr-does u code shape i l short unit words vs (room - frame q) n (x (room - frame q)) (calls n e) (q .body) (a + 6) (at-body .0) (rw arity f) (with-left s n) (begun site room q n m (l .code + (a + 6))) (omega arith)
+        (expr-does u code shape i l short unit words vs (room - frame q) n (x (room - frame q)) (calls n e) (q .body) (a + 6) (at-body .0) (rw arity f)
+        (with-left s n) (begun site room q n m (l .code + (a + 6))) (omega arith)
         (begins shape site room vs q (ltb-false room (frame q) enough) arity n (l .code + a) s m entered (l .code + (a + 6))))
 
     spends : (n : ℕ) → s .left ≡ n → Outcome code shape site (s .left) m (spend n s (λ r. enter (Some q) room (λ p free. eval (x free) i vs (p .body) r) r))

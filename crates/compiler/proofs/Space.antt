@@ -16,7 +16,7 @@ use Rattle.machine.specs.Instructions.{Opcode, Halt, Push, Arg, Load, Store, Op
 use Rattle.compiler.specs.Instructions.{Operand, plain, in-code, in-words, of-want, Instruction, instr, opcode-number, operand-word, code-words, fit-operand, code-fits}
 use Rattle.compiler.specs.Code.{code-unit, proc-args, offers-of, object}
 use Rattle.compiler.specs.Correct.{Fits-space}
-use Rattle.compiler.proofs.Expressions.{apart, together}
+use Rattle.compiler.proofs.Tests.{apart, together}
 use Rattle.compiler.proofs.Lengths.{size-procs, proc-at-most}
 use Rattle.compiler.proofs.Operands.{Sane, All-sane}
 use Rattle.compiler.proofs.Correct.{row-length, code-short, unit-sane}
@@ -87,7 +87,8 @@ args-small [] n h = omega arith
 args-small (q ∷ qs) zero h = leb→le (q .args) 8 (apart (leb (q .args) 8) (leb (depth (q .body)) 256 && small-procs qs) h .0)
 args-small (q ∷ qs) (suc n) h = args-small qs n (apart (leb (depth (q .body)) 256) (small-procs qs) (apart (leb (q .args) 8) (leb (depth (q .body)) 256 && small-procs qs) h .1) .1)
 
-offers-small : (u : SourceUnit) (os : List ℕ) → length (u .procs) ≤ 256 → T (small-procs (u .procs)) → size-procs (u .procs) < 2 ^ 32 → T (all-below (length (u .procs)) os) → Words (rowOffers (offers-of u os))
+offers-small : (u : SourceUnit) (os : List ℕ) → length (u .procs) ≤ 256 → T (small-procs (u .procs)) → size-procs (u .procs) < 2 ^ 32 →
+    T (all-below (length (u .procs)) os) → Words (rowOffers (offers-of u os))
 offers-small u [] few small short h = tt
 offers-small u (o ∷ os) few small short h =
     let r = apart (ltb o (length (u .procs))) (all-below (length (u .procs)) os) h in

@@ -7,7 +7,8 @@ use lib.ListN.{getD}
 use Rattle.std.specs.declared.option.Option.the-variants.{Some}
 use Rattle.std.specs.Finite.{nth}
 use Rattle.machine.specs.Machine.{Machine}
-use Rattle.machine.specs.Instructions.{Opcode, Halt, Push, Arg, Load, Store, Operate, JumpIfZero, Jump, Call, SetFrame, Return, Out, Next, Pop, Reserve, Release, Count, opcodes, act, step, steps}
+use Rattle.machine.specs.Instructions.{Opcode, Halt, Push, Arg, Load, Store, Operate, JumpIfZero, Jump, Call, SetFrame}
+use Rattle.machine.specs.Instructions.{Return, Out, Next, Pop, Reserve, Release, Count, opcodes, act, step, steps}
 use Rattle.semantics.specs.Relation.{Halts}
 use Rattle.compiler.specs.Instructions.{opcode-number}
 
@@ -53,6 +54,3 @@ halts-after {code} {m = m} {m′ = m′} (n, p) (k, q, r) = (n + k, ap (λ (w : 
 
 pub goes-step : (code : List ℕ) (m m′ : Machine) → step code m ≡ m′ → Goes code m m′
 goes-step code m m′ e = (1, e)
-
-pub halts-step : (code : List ℕ) (m m′ : Machine) → step code m ≡ m′ → Halts code (m′ .halted) (m′ .outs) m
-halts-step code m m′ e = (1, ap (λ (w : Machine). w .halted) e, ap (λ (w : Machine). w .outs) e)

@@ -21,24 +21,23 @@ use Rattle.compiler.specs.Code.{size-proc, proc-at, code-proc, code-procs, cod
 use Rattle.compiler.specs.Simulation.{Lies, Calls, Calls-do}
 use Rattle.compiler.proofs.Placing.{length-placed, fit-code}
 use Rattle.compiler.proofs.Lying.{Here, here, here-split, length-words-append, length-expr}
-use Rattle.compiler.proofs.Expressions.{apart}
+use Rattle.compiler.proofs.Tests.{apart, none-some}
 use Rattle.compiler.proofs.Procedures.{proc-does}
 
 pub length-proc : (u : SourceUnit) (a : ℕ) (q : Proc) → length (code-words (code-proc u a q)) ≡ size-proc q
 length-proc u a q = simp length-words-append (omega (arith, length-expr (q .body) u (a + 6)))
 
-pub none-some : {A : Type 0} (x : A) → None ≡ Some x → ⊥
-none-some x h = let z : _≡_ {A = ℕ} 0 1 = cc in omega arith
-
 -- the code of procedure p stands where it should
-proc-here : (code : List ℕ) (l : Place) (u : SourceUnit) (qs : List Proc) (b p a : ℕ) (q : Proc) → nth qs p ≡ Some q → b + proc-at qs p ≡ a → Here code l b (code-procs u b qs) → Here code l a (code-proc u a q)
+proc-here : (code : List ℕ) (l : Place) (u : SourceUnit) (qs : List Proc) (b p a : ℕ) (q : Proc) → nth qs p ≡ Some q → b + proc-at qs p ≡ a →
+    Here code l b (code-procs u b qs) → Here code l a (code-proc u a q)
 proc-here code l u [] b p a q e k h = absurd (none-some q e)
 proc-here code l u (r ∷ qs) b zero a q e k h =
     let same : r ≡ q = cc in
     let here-r = here-split code l (code-proc u b r) (code-procs u (b + size-proc r) qs) b (b + size-proc r) (ap (λ (n : ℕ). b + n) (length-proc u b r)) h .0 in
     subst₂ (λ (n : ℕ) (c : Proc). Here code l n (code-proc u n c)) (omega arith) same here-r
 proc-here code l u (r ∷ qs) b (suc p) a q e k h =
-    proc-here code l u qs (b + size-proc r) p a q e (omega arith) (here-split code l (code-proc u b r) (code-procs u (b + size-proc r) qs) b (b + size-proc r) (ap (λ (n : ℕ). b + n) (length-proc u b r)) h .1)
+    proc-here code l u qs (b + size-proc r) p a q e (omega arith) (here-split code l (code-proc u b r) (code-procs u (b + size-proc r) qs) b (b + size-proc r)
+    (ap (λ (n : ℕ). b + n) (length-proc u b r)) h .1)
 
 formed-proc : (u : SourceUnit) (qs : List Proc) (p : ℕ) (q : Proc) → nth qs p ≡ Some q → T (formed-procs u qs) → T (formed u (q .args) (q .body))
 formed-proc u [] p q e f = absurd (none-some q e)
@@ -70,7 +69,8 @@ module _ (u : SourceUnit) (code shape : List ℕ) (i c : ℕ) (ps : List ℕ) (p
   Own-do d = (p : ℕ) (q : Proc) → nth (u .procs) p ≡ Some q → Simulates code shape d (c + proc-at (u .procs) p) (q .args) (run-unit d u i x p)
 
   own-here : (p : ℕ) (q : Proc) → nth (u .procs) p ≡ Some q → Here code (lying shape i c ps) (proc-at (u .procs) p) (code-proc u (proc-at (u .procs) p) q)
-  own-here p q h = proc-here code (lying shape i c ps) u (u .procs) 0 p (proc-at (u .procs) p) q h (omega arith) (here code (lying shape i c ps) (code-unit u) 0 (unit-lies u code shape i c ps placed))
+  own-here p q h = proc-here code (lying shape i c ps) u (u .procs) 0 p (proc-at (u .procs) p) q h (omega arith)
+      (here code (lying shape i c ps) (code-unit u) 0 (unit-lies u code shape i c ps placed))
 
   own-place : (p : ℕ) (q : Proc) → nth (u .procs) p ≡ Some q → placed-word (lying shape i c ps) (in-code (proc-at (u .procs) p)) ≡ c + proc-at (u .procs) p
   own-place p q h = omega (arith, own-here p q h .0 .inside)
@@ -81,7 +81,8 @@ module _ (u : SourceUnit) (code shape : List ℕ) (i c : ℕ) (ps : List ℕ) (p
       by-kind : (b : Bool) → cond b (mapped (λ (w : Want). w .args) (nth (u .wants) n)) (mapped (λ (q : Proc). q .args) (nth (u .procs) (n - length (u .wants)))) ≡ Some k →
           Entered shape (placed-word (lying shape i c ps) (cond b (of-want n) (in-code (proc-at (u .procs) (n - length (u .wants)))))) site room ws t m →
           Outcome code shape site (t .left) m (cond b (x d n room ws t) (run-unit d u i x (n - length (u .wants)) room ws t))
-      by-kind true h entered = let (w, there, same) = mapped-is (λ (w : Want). w .args) (nth (u .wants) n) k h in wants d n w (omega arith) there site room ws t m (len ∙ sym same) (omega arith) entered
+      by-kind true h entered = let (w, there, same) = mapped-is (λ (w : Want). w .args) (nth (u .wants) n) k h in
+          wants d n w (omega arith) there site room ws t m (len ∙ sym same) (omega arith) entered
       by-kind false h entered =
           let (q, there, same) = mapped-is (λ (q : Proc). q .args) (nth (u .procs) (n - length (u .wants))) k h in
           own (n - length (u .wants)) q there site room ws t m (len ∙ sym same) (omega arith)
@@ -90,7 +91,8 @@ module _ (u : SourceUnit) (code shape : List ℕ) (i c : ℕ) (ps : List ℕ) (p
   proc-runs : (d p : ℕ) (q : Proc) → nth (u .procs) p ≡ Some q → Wants-below (suc d) → Own-do d → Simulates code shape (suc d) (c + proc-at (u .procs) p) (q .args) (run-unit (suc d) u i x p)
   proc-runs d p q h wants own site room vs s m len few entered =
       subst (λ (o : Option Proc). Outcome code shape site (s .left) m (spend (s .left) s (λ r. enter o room (λ q free. eval (inner d free) i vs (q .body) r) r))) (sym h)
-      (proc-does u code shape i (lying shape i c ps) (placed .addressable) (placed .words) refl (proc-at (u .procs) p) q (own-here p q h) (formed-proc u (u .procs) p q h f) site room vs len s m entered (inner d)
+      (proc-does u code shape i (lying shape i c ps) (placed .addressable) (placed .words) refl (proc-at (u .procs) p) q (own-here p q h)
+      (formed-proc u (u .procs) p q h f) site room vs len s m entered (inner d)
       (λ n e. calls-do d (room - frame q) n (omega arith) wants own))
 
   pub own-do : (d : ℕ) → Wants-below d → Own-do d

@@ -61,7 +61,8 @@ weight-proc u a q = simp weight-append (omega (arith, weight-expr (q .body) u (a
 
 weight-procs : (u : SourceUnit) (qs : List Proc) (a : ℕ) → weight (code-procs u a qs) ≤ 10 * length (rowProcs qs)
 weight-procs u [] a = omega arith
-weight-procs u (q ∷ qs) a = rw (weight-append (code-proc u a q) (code-procs u (a + size-proc q) qs), length-append (rowExpr (q .body)) (rowProcs qs)) (omega (arith, weight-proc u a q, weight-procs u qs (a + size-proc q)))
+weight-procs u (q ∷ qs) a = rw (weight-append (code-proc u a q) (code-procs u (a + size-proc q) qs), length-append (rowExpr (q .body)) (rowProcs qs))
+    (omega (arith, weight-proc u a q, weight-procs u qs (a + size-proc q)))
 
 length-offers : (u : SourceUnit) (os : List ℕ) → length (rowOffers (offers-of u os)) ≡ 3 * length os
 length-offers u [] = refl

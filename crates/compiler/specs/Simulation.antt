@@ -58,7 +58,8 @@ pub record Worked (shape : List ℕ) (place v : ℕ) (s : State) (m m′ : Machi
   pub memory : length (m′ .memory) ≡ length (m .memory)
   pub below : (j : ℕ) → total shape ≤ j → j < m .sp → at m′ j ≡ at m j
 
--- what comes of the machine, if what comes of the expression is to be this; place: behind the expression's code
+-- what comes of the machine, if what comes of the expression is to be this; place: behind the expression's code.
+-- The bad state, in which a callee is missing, promises nothing
 abbrev pub Comes : List ℕ → List ℕ → ℕ → ℕ → Machine → Result → Type 0
 Comes code shape place left m (value v s) = (n : ℕ) × (s .left ≤ left) × Worked shape place v s m (steps n code m)
 Comes code shape place left m (no-room s) = Halts code 3 (s .outs) m
@@ -74,8 +75,12 @@ pub record Expression-placed (u : SourceUnit) (code shape : List ℕ) (i : ℕ) 
 
 abbrev pub Simulates-expressions : Type 0
 Simulates-expressions =
+    -- wherever the expression's code comes to lie, in whichever unit
     (u : SourceUnit) (code shape : List ℕ) (i : ℕ) (l : Place) (a : ℕ) (e : Expr) → Expression-placed u code shape i l a e →
+    -- in a procedure with these arguments, in which the expression is well formed
     (vs : List ℕ) → T (formed u (length vs) e) →
+    -- and as long as the calls do what they should, whatever code they go to
     (room left : ℕ) (x : Calls) → Calls-do u l code shape room left x →
+    -- a machine that is about to work on it comes to what the expression comes to
     (s : State) (m : Machine) → s .left ≤ left → Working shape (l .code + a) vs room (height e) s m →
     Comes code shape (l .code + (a + size e)) (s .left) m (eval x i vs e s)

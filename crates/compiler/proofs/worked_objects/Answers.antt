@@ -1,5 +1,5 @@
-use mathlib.Core.Path.{refl}
+use Rattle.compiler.proofs.Worked.{worked}
 use Rattle.compiler.proofs.worked_objects.Needs as need
 
 pub returns : need.returns
-returns c = record { sums = refl; asks = refl }
+returns c = worked
