@@ -1,1 +1,2 @@
 // Units and objects as rows of words: the definitions stand in specs/.
+pub mod objects;
