@@ -6,3 +6,4 @@ pub mod FrontRows
 pub mod ObjectLists
 pub mod Inside
 pub mod Reader
+pub mod Wants

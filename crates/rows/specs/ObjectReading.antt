@@ -18,7 +18,7 @@ use Rattle.rows.specs.ObjectRows.{sound, Object-rows}
 use Rattle.rows.specs.ObjectViews.{wants-in, offers-in, fits-in, object-of}
 use Rattle.rows.specs.declared.objects.ObjectView.{ObjectView}
 use Rattle.rows.specs.declared.objects.Objects.{Objects}
-use Rattle.rows.specs.declared.objects.NoObject.{NoObject}
+use Rattle.rows.specs.declared.objects.NoObjects.{NoObjects}
 
 -- the object whose w words of wants, o of offers, c of code and f of fits stand at the front of xs, and the row behind them
 abbrev pub cut : ℕ → ℕ → ℕ → ℕ → ℕ → ℕ → List ℕ → Object × List ℕ
@@ -68,9 +68,9 @@ pub record Begun (s : List ℕ) (r : Objects) : Type 0 where
   pub short : length s ≤ 16777216
 
 -- where there is no reader, the row says no objects
-abbrev pub BegunSays : List ℕ → Option Objects → Type 0
-BegunSays s None = (os : List Object) → Object-rows s os → ⊥
-BegunSays s (Some r) = Begun s r
+abbrev pub BegunSays : List ℕ → Result Objects NoObjects → Type 0
+BegunSays s (Ok r) = Begun s r
+BegunSays s (Err e) = (os : List Object) → Object-rows s os → ⊥
 
 -- the reader r has given the object v and goes on as r′, with so much less of the row
 pub record Given (r r′ : Objects) (v : ObjectView) : Type 0 where
@@ -79,7 +79,7 @@ pub record Given (r r′ : Objects) (v : ObjectView) : Type 0 where
   pub fewer : r .left ≡ suc (r′ .left)
   pub shorter : length (now (v .code)) + length (now (r′ .rest)) < length (now (r .rest))
 
-abbrev pub NextSays : Objects → Objects → Result (Option ObjectView) NoObject → Type 0
+abbrev pub NextSays : Objects → Objects → Result (Option ObjectView) NoObjects → Type 0
 NextSays r r′ (Ok None) = (to-come r ≡ Some []) × (r′ ≡ r)
 NextSays r r′ (Ok (Some v)) = Given r r′ v
 NextSays r r′ (Err e) = (to-come r ≡ None) × (r′ ≡ r)

@@ -1,7 +1,7 @@
 -- Which object a view of a row means: its wants, offers and fits are read off in threes.
 use mathlib.Core.Path.{_≡_}
 use mathlib.Core.List.{List, [], _∷_}
-use Prim.Native.Nat.{ℕ, _<_}
+use Prim.Native.Nat.{ℕ, zero, suc, _<_}
 use lib.ListN.{length}
 use denote.Ref.{RefT, now}
 use Rattle.std.specs.declared.option.Option.{Option}
@@ -11,6 +11,8 @@ use Rattle.rows.specs.Objects.{Fit, Offer, Object}
 use Rattle.rows.specs.declared.objects.Want.{Want as WantWords}
 use Rattle.rows.specs.declared.objects.Offer.{Offer as OfferWords}
 use Rattle.rows.specs.declared.objects.Fit.{Fit as FitWords}
+use Rattle.rows.specs.declared.objects.Kind.{Kind}
+use Rattle.rows.specs.declared.objects.Kind.the-variants.{Code, Words, Want as WantKind}
 use Rattle.rows.specs.declared.objects.ObjectView.{ObjectView}
 
 abbrev pub want-of : WantWords → Want
@@ -43,6 +45,12 @@ fits-in (a ∷ b ∷ c ∷ xs) = record { at = a; kind = b; want = c } ∷ fits-
 
 abbrev pub object-of : ObjectView → Object
 object-of v = record { name = v .name; words = v .words; wants = wants-in (now (v .wants)); offers = offers-in (now (v .offers)); code = now (v .code); fits = fits-in (now (v .fits)) }
+
+-- what a fit of that kind and want does
+abbrev pub what : ℕ → ℕ → Kind
+what zero want = Code
+what (suc zero) want = Words
+what (suc (suc kind)) want = WantKind want
 
 -- the first of a row's items and the row behind it, or that there is none: `items` reads the row, `item` the first
 pub record First {W X : Type 0} (items : List ℕ → List X) (item : W → X) (row : List ℕ) (r : W × RefT (List ℕ)) : Type 0 where

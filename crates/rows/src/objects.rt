@@ -1,10 +1,10 @@
 // Objects read from rows of words, one after the other, each as a view of the row.
 ghost use mathlib.Core.Path.{_≡_};
 ghost use mathlib.Core.List.{[], _∷_};
-ghost use Prim.Native.Nat.{ℕ, _+_, _<_};
-ghost use lib.ListN.{length};
+ghost use Rattle.std.specs.Finite.{nth};
+ghost use Rattle.std.specs.Options.{mapped};
 ghost use Rattle.rows.specs.ObjectRows.{sound, offers-inside, fits-inside};
-ghost use Rattle.rows.specs.ObjectViews.{want-of, wants-in, offer-of, offers-in, fit-of, fits-in, object-of, FirstSays};
+ghost use Rattle.rows.specs.ObjectViews.{want-of, wants-in, offer-of, offers-in, fit-of, fits-in, object-of, what, FirstSays};
 ghost use Rattle.rows.specs.ObjectReading.{front, said, BegunSays, NextSays, One-list};
 
 // A want of an object: a procedure of the unit with that name, called with so many arguments.
@@ -29,6 +29,14 @@ pub struct Fit {
     pub at: u32,
     pub kind: u32,
     pub want: u32,
+}
+
+// What a fit does: adds the place of the object's own code or of its own words, or puts the place of a want in the word's stead.
+#[derive(Clone, Copy, PartialEq, Eq, Debug)]
+pub enum Kind {
+    Code,
+    Words,
+    Want(u32),
 }
 
 // An object as it stands in a row: wants, offers and fits are three words each.
@@ -90,6 +98,17 @@ impl Fit {
             want: *want,
         };
         Some((fit, rest))
+    }
+
+    // What the fit does; only the kinds 0 to 2 stand in objects.
+    pub fn what(&self) -> Kind
+        ensures { λ r. ⌜ r ≡ what (now (self .entry) .kind) (now (self .entry) .want) ⌝ }
+    {
+        match self.kind {
+            0 => Kind::Code,
+            1 => Kind::Words,
+            _ => Kind::Want(self.want),
+        }
     }
 
     // Whether the fit is of a place in a code of so many words, of one of the three kinds, and names one of so many wants if it has to.
@@ -160,6 +179,20 @@ impl<'a> ObjectView<'a> {
         Some((view, rest))
     }
 
+    // The want with that number, if it is there.
+    pub fn want(&self, number: u32) -> Option<Want>
+        ensures { λ r. ⌜ mapped want-of r ≡ nth (object-of (now (self .entry)) .wants) number ⌝ }
+    {
+        let at = 3 * number as usize;
+        if at >= self.wants.len() {
+            return None;
+        }
+        match Want::first(&self.wants[at..]) {
+            Some((want, _)) => Some(want),
+            None => None,
+        }
+    }
+
     // Whether the object keeps to the limits: of its words, of the places of its offers, and of its fits.
     pub fn is_sound(&self) -> bool
         ensures { λ r. ⌜ r ≡ sound (object-of (now (self .entry))) ⌝ }
@@ -179,7 +212,7 @@ pub const MOST_OBJECTS: usize = 256;
 
 // A row that says no list of objects.
 #[derive(Clone, Copy, PartialEq, Eq, Debug)]
-pub struct NoObject;
+pub struct NoObjects;
 
 // A reader of objects: the row that is left, and how many objects may still come.
 #[derive(Clone, Copy, Debug)]
@@ -189,34 +222,34 @@ pub struct Objects<'a> {
 }
 
 impl<'a> Objects<'a> {
-    // A reader of the whole row; none where the row is too long.
-    pub fn new(row: &'a [u32]) -> Option<Objects<'a>>
+    // A reader of the whole row, which is refused where it is too long.
+    pub fn new(row: &'a [u32]) -> Result<Objects<'a>, NoObjects>
         ensures { λ r. ⌜ BegunSays (now (row .entry)) r ⌝ }
     {
         if row.len() > MOST_WORDS {
-            return None;
+            return Err(NoObjects);
         }
-        Some(Objects {
+        Ok(Objects {
             rest: row,
             left: MOST_OBJECTS,
         })
     }
 
-    // The next object, or none at the row's end; a refusal says that the row is no list of objects.
-    pub fn next(&mut self) -> Result<Option<ObjectView<'a>>, NoObject>
+    // The next object, or none at the row's end; a row that is no list of objects is refused.
+    pub fn next(&mut self) -> Result<Option<ObjectView<'a>>, NoObjects>
         ensures { λ r. ⌜ NextSays (now (self .entry)) (now (self .exit)) r ⌝ }
     {
         if self.rest.is_empty() {
             return Ok(None);
         }
         if self.left == 0 {
-            return Err(NoObject);
+            return Err(NoObjects);
         }
         let Some((view, rest)) = ObjectView::first(self.rest) else {
-            return Err(NoObject);
+            return Err(NoObjects);
         };
         if !view.is_sound() {
-            return Err(NoObject);
+            return Err(NoObjects);
         }
         self.rest = rest;
         self.left -= 1;
