@@ -1,2 +1,4 @@
 -- Linking: laying objects one behind the other, finding what each wants, and fitting their code.
 pub mod Linking
+pub mod Tables
+pub mod Says

@@ -1,1 +1,26 @@
 mod Cases
+pub mod Continuations
+pub mod Lookups
+pub mod Names
+pub mod NotBad
+pub mod Grows
+pub mod Matched
+pub mod Seen
+pub mod SideBySide
+pub mod Thresholds
+pub mod Budgets
+pub mod AnyOrder
+pub mod Company
+pub mod Options
+pub mod UnitRuns
+pub mod Steps
+pub mod Laid
+pub mod Finding
+pub mod Linked
+pub mod Start
+pub mod Main
+pub mod Images
+pub mod Linkable
+pub mod Untouched
+pub mod Alone
+pub mod Promised

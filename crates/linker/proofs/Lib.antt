@@ -1,0 +1,10 @@
+pub mod SoFar
+pub mod Names
+pub mod Settling
+pub mod Meeting
+pub mod Places
+pub mod Fits
+pub mod Behind
+pub mod Written
+pub mod LaidObjects
+pub mod Posts
