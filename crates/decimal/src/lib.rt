@@ -1,9 +1,7 @@
 // Decimal numbers below 2^32 in text, separated by white space.
 ghost use mathlib.Core.Path.{_≡_};
-ghost use Prim.Native.Nat.{_+_, _*_, _≤_};
-ghost use Rattle.std.specs.Options.{valueOr};
 ghost use Rattle.std.specs.declared.option.Option.the-variants.{None};
-ghost use Rattle.decimal.specs.Feeding.{fed, grown, ended};
+ghost use Rattle.decimal.specs.Feeding.{fed, ended, longer, number-from};
 
 pub mod input;
 
@@ -32,27 +30,15 @@ impl Decimals {
         ensures { λ r. ⌜ (now (self .exit) .«so_far», r) ≡ fed (now (self .entry) .«so_far») b ⌝ }
     {
         match b {
-            b'0'..=b'9' => self.digit(b - b'0'),
             b' ' | b'\t' | b'\n' | b'\r' => self.end(),
             _ => {
-                self.so_far = None;
-                Fed::Bad
+                self.so_far = grow(self.so_far, b);
+                match self.so_far {
+                    Some(_) => Fed::More,
+                    None => Fed::Bad,
+                }
             }
         }
-    }
-
-    // A digit more.
-    fn digit(&mut self, d: u8) -> Fed
-        requires { ⌜ d ≤ 9 ⌝ }
-        ensures { λ r. ⌜ (now (self .exit) .«so_far», r) ≡ grown (valueOr (now (self .entry) .«so_far») 0 * 10 + d) ⌝ }
-    {
-        let value = self.so_far.unwrap_or(0) as u64 * 10 + d as u64;
-        if value > u32::MAX as u64 {
-            self.so_far = None;
-            return Fed::Bad;
-        }
-        self.so_far = Some(value as u32);
-        Fed::More
     }
 
     // The text's end, or white space: the number under way is whole.
@@ -69,21 +55,29 @@ impl Decimals {
     }
 }
 
-// The number that a text is, if it is nothing but one.
-pub fn parse(text: &str) -> Option<u32> {
-    let mut decimals = Decimals::new();
-    for b in text.bytes() {
-        match b {
-            b'0'..=b'9' => {
-                let Fed::More = decimals.feed(b) else {
-                    return None;
-                };
-            }
-            _ => return None,
+// A number with one digit more.
+fn grow(so_far: Option<u32>, b: u8) -> Option<u32>
+    ensures { λ r. ⌜ r ≡ longer «so_far» b ⌝ }
+{
+    match b {
+        b'0'..=b'9' => {
+            let value = so_far.unwrap_or(0) as u64 * 10 + (b - b'0') as u64;
+            if value > u32::MAX as u64 { None } else { Some(value as u32) }
         }
-    }
-    match decimals.end() {
-        Fed::Number(v) => Some(v),
         _ => None,
     }
+}
+
+// The number that a text is, if it is nothing but one.
+pub fn parse(text: &str) -> Option<u32>
+    ensures { λ r. ⌜ r ≡ number-from None (now (text .entry)) ⌝ }
+{
+    let mut so_far = None;
+    for b in text.as_bytes() {
+        let Some(v) = grow(so_far, *b) else {
+            return None;
+        };
+        so_far = Some(v);
+    }
+    so_far
 }
