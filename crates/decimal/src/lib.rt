@@ -62,7 +62,11 @@ fn grow(so_far: Option<u32>, b: u8) -> Option<u32>
     match b {
         b'0'..=b'9' => {
             let value = so_far.unwrap_or(0) as u64 * 10 + (b - b'0') as u64;
-            if value > u32::MAX as u64 { None } else { Some(value as u32) }
+            if value > u32::MAX as u64 {
+                None
+            } else {
+                Some(value as u32)
+            }
         }
         _ => None,
     }

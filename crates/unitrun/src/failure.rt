@@ -3,6 +3,7 @@ use crate::options::Flag;
 use crate::options::FlagDisplay;
 use decimal::input::InputError;
 use decimal::input::InputErrorDisplay;
+use linker::Linked;
 use std::alloc::AllocError;
 use std::fmt;
 use std::io;
@@ -16,7 +17,9 @@ pub enum Failure {
     NoFile { name: String, error: io::Error },
     BadFile { name: String, error: InputError },
     BadTape(InputError),
+    CodeAndMore,
     NoImage,
+    NotLinked(Linked),
     Small,
     NoOutput(io::Error),
     NoMemory,
@@ -47,6 +50,14 @@ pub impl fmt::Display for Failure as FailureDisplay {
             Failure::NoFile { name, error } => write!(f, "{name}: {error}"),
             Failure::BadFile { name, error } => write!(f, "{name}: {error}"),
             Failure::BadTape(error) => write!(f, "the tape: {error}"),
+            Failure::CodeAndMore => write!(
+                f,
+                "--code takes one file, and neither objects nor --image"
+            ),
+            Failure::NotLinked(Linked::NoObjects) => write!(f, "no objects"),
+            Failure::NotLinked(Linked::Twice) => write!(f, "twice"),
+            Failure::NotLinked(Linked::Missing) => write!(f, "missing"),
+            Failure::NotLinked(_) => write!(f, "no space"),
             Failure::NoImage => write!(f, "the file holds no image"),
             Failure::Small => write!(f, "small"),
             Failure::NoOutput(error) => write!(f, "{error}"),

@@ -1,5 +1,6 @@
-// Runs an image on a tape that is given on standard input.
+// Links objects and runs them, or runs an image, on a tape that is given on standard input.
 use decimal::input::read_words;
+use linker::Linked;
 use machine::Ran;
 use std::fs;
 use std::io;
@@ -25,17 +26,20 @@ const TAPE_WORDS: usize = 65_536;
 
 const OUT_WORDS: usize = 65_536;
 
-const USAGE: &str = "usage: unitrun [--room N] [--calls N] [--steps N] --code FILE
+const USAGE: &str = "usage: unitrun [--room N] [--calls N] [--steps N] OBJECTS...
+       unitrun --image OBJECTS...
+       unitrun [--room N] [--calls N] [--steps N] --code FILE
 
-Runs an image on the tape that is given on standard input in decimal, and prints
-each word that it puts out, and as the last line how it ended: done, no calls,
-no room, wild, more or out full.
+Links the objects of the files, in the order given, and runs the image on the
+tape that is given on standard input in decimal. Prints each word that it puts
+out, and as the last line how it ended: done, no calls, no room, wild, more or
+out full.
 
-  --code FILE  the image: its code, and as the last number of the file the
-               number of words of all units
   --room N     room for frames (65536)
   --calls N    calls allowed (1000000)
   --steps N    steps allowed (4294967295)
+  --image      only links: prints the image, and the number of words of all units
+  --code FILE  runs an image as --image prints it
   --help       prints this
   --version    prints the version";
 
@@ -52,8 +56,71 @@ fn run(rt: &LibcRuntime) -> Result<(), Failure> {
     match command {
         Command::Help => Ok(rt.println(USAGE)?),
         Command::Version => Ok(rt.println("unitrun 0.1.0")?),
+        Command::Run(names) => run_objects(rt, names, budgets),
+        Command::Image(names) => print_image(rt, names),
         Command::Code(name) => run_code(rt, name, budgets),
     }
+}
+
+// Links the objects of files and runs them.
+fn run_objects(rt: &LibcRuntime, names: Vec<String>, budgets: Budgets) -> Result<(), Failure> {
+    let linked = link_files(rt, names)?;
+    let tape = read_tape(rt)?;
+    let free = BUFFER_WORDS - INPUT_WORDS - TAPE_WORDS - OUT_WORDS;
+    let free = free.saturating_sub(linked.image.len());
+    let Ok(words) = u32::try_from(linked.words) else {
+        return Err(Failure::Small);
+    };
+    run_image(
+        rt,
+        linked.image.as_slice(),
+        words,
+        tape.as_slice(),
+        budgets,
+        free,
+    )
+}
+
+// An image, and the number of words of all units.
+#[derive(Drop)]
+struct LinkedImage {
+    image: Vec<u32>,
+    words: usize,
+}
+
+fn link_files(rt: &LibcRuntime, names: Vec<String>) -> Result<LinkedImage, Failure> {
+    let mut objects = Vec::with_capacity(rt.alloc(), INPUT_WORDS)?;
+    for name in names {
+        read_file(rt, name, &mut objects)?;
+    }
+    let mut image = vec![in rt.alloc(); 0u32; objects.len() + 4]?;
+    match linker::link(objects.as_slice(), image.as_mut_slice()) {
+        Linked::Image(n, words) => {
+            image.truncate(n);
+            Ok(LinkedImage { image, words })
+        }
+        refusal => Err(Failure::NotLinked(refusal)),
+    }
+}
+
+// Prints an image, and the number of words of all units.
+fn print_image(rt: &LibcRuntime, names: Vec<String>) -> Result<(), Failure> {
+    let linked = link_files(rt, names)?;
+    let mut to = io::BufWriter::new(rt.stdout());
+    let mut first = true;
+    for x in linked.image.iter() {
+        if first {
+            write!(to, "{x}")?;
+        } else {
+            write!(to, " {x}")?;
+        }
+        first = false;
+    }
+    let words = linked.words;
+    writeln!(to)?;
+    writeln!(to, "{words}")?;
+    to.flush()?;
+    Ok(())
 }
 
 // Runs an image from a file.

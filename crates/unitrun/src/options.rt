@@ -17,6 +17,8 @@ pub struct Budgets {
 pub enum Command {
     Help,
     Version,
+    Run(Vec<String>),
+    Image(Vec<String>),
     Code(String),
 }
 
@@ -56,7 +58,9 @@ impl Options {
             },
             waiting: None,
             asked: None,
+            image: false,
             code: None,
+            objects: Vec::new(rt.alloc()),
         };
         for arg in env::args(rt)?.skip(1) {
             line.take(arg)?;
@@ -71,7 +75,9 @@ struct Line {
     budgets: Budgets,
     waiting: Option<Flag>,
     asked: Option<Command>,
+    image: bool,
     code: Option<String>,
+    objects: Vec<String>,
 }
 
 impl Line {
@@ -93,9 +99,22 @@ impl Line {
             "--calls" => self.waiting = Some(Flag::Calls),
             "--steps" => self.waiting = Some(Flag::Steps),
             "--code" => self.waiting = Some(Flag::Code),
-            _ => return Err(Failure::Unknown(arg)),
+            "--image" => self.image = true,
+            text => {
+                if text.starts_with("-") {
+                    return Err(Failure::Unknown(arg));
+                }
+                return self.object(arg);
+            }
         }
         Ok(())
+    }
+
+    fn object(&mut self, name: String) -> Result<(), Failure> {
+        match self.objects.push(name) {
+            Ok(()) => Ok(()),
+            Err(_) => Err(Failure::NoMemory),
+        }
     }
 
     fn set(&mut self, flag: Flag, text: String) -> Result<(), Failure> {
@@ -114,7 +133,9 @@ impl Line {
             budgets,
             waiting,
             asked,
+            image,
             code,
+            objects,
         } = self;
         if let Some(command) = asked {
             return Ok(Options { budgets, command });
@@ -122,12 +143,29 @@ impl Line {
         if let Some(flag) = waiting {
             return Err(Failure::NoValue(flag));
         }
-        match code {
-            Some(name) => Ok(Options {
-                budgets,
-                command: Command::Code(name),
-            }),
-            None => Err(Failure::Nothing),
+        let command = choose(image, code, objects)?;
+        Ok(Options { budgets, command })
+    }
+}
+
+// An image from a file stands alone; objects are run, or only linked.
+fn choose(image: bool, code: Option<String>, objects: Vec<String>) -> Result<Command, Failure> {
+    match code {
+        Some(name) => {
+            if image || objects.len() > 0 {
+                return Err(Failure::CodeAndMore);
+            }
+            Ok(Command::Code(name))
+        }
+        None => {
+            if objects.len() == 0 {
+                return Err(Failure::Nothing);
+            }
+            Ok(if image {
+                Command::Image(objects)
+            } else {
+                Command::Run(objects)
+            })
         }
     }
 }
