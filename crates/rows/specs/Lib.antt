@@ -7,3 +7,5 @@ pub mod Formed
 pub mod Objects
 pub mod UnitRows
 pub mod ObjectRows
+pub mod ObjectViews
+pub mod ObjectReading

@@ -1,2 +1,3 @@
 // Units and objects as rows of words, and the operations on words that units have.
+pub mod objects;
 pub mod operations;

@@ -1,0 +1,230 @@
+// Objects read from rows of words, one after the other, each as a view of the row.
+ghost use mathlib.Core.Path.{_≡_};
+ghost use mathlib.Core.List.{[], _∷_};
+ghost use Prim.Native.Nat.{ℕ, _+_, _<_};
+ghost use lib.ListN.{length};
+ghost use Rattle.rows.specs.ObjectRows.{sound, offers-inside, fits-inside};
+ghost use Rattle.rows.specs.ObjectViews.{want-of, wants-in, offer-of, offers-in, fit-of, fits-in, object-of, FirstSays};
+ghost use Rattle.rows.specs.ObjectReading.{front, said, BegunSays, NextSays, One-list};
+
+// A want of an object: a procedure of the unit with that name, called with so many arguments.
+#[derive(Clone, Copy, PartialEq, Eq, Debug)]
+pub struct Want {
+    pub unit: u32,
+    pub proc: u32,
+    pub args: u32,
+}
+
+// An offer of an object: the procedure, with so many arguments, begins at that place of the code.
+#[derive(Clone, Copy, PartialEq, Eq, Debug)]
+pub struct Offer {
+    pub proc: u32,
+    pub args: u32,
+    pub at: u32,
+}
+
+// A fit of an object: what is done, by its kind, to the code word at that place.
+#[derive(Clone, Copy, PartialEq, Eq, Debug)]
+pub struct Fit {
+    pub at: u32,
+    pub kind: u32,
+    pub want: u32,
+}
+
+// An object as it stands in a row: wants, offers and fits are three words each.
+#[derive(Clone, Copy, Debug)]
+pub struct ObjectView<'a> {
+    pub name: u32,
+    pub words: u32,
+    pub wants: &'a [u32],
+    pub offers: &'a [u32],
+    pub code: &'a [u32],
+    pub fits: &'a [u32],
+}
+
+impl Want {
+    // The first want of a row of them, and the row behind it.
+    pub fn first(row: &[u32]) -> Option<(Want, &[u32])>
+        ensures { λ r. ⌜ FirstSays wants-in want-of (now (row .entry)) r ⌝ }
+    {
+        let [unit, proc, args, rest @ ..] = row else {
+            return None;
+        };
+        let want = Want {
+            unit: *unit,
+            proc: *proc,
+            args: *args,
+        };
+        Some((want, rest))
+    }
+}
+
+impl Offer {
+    // The first offer of a row of them, and the row behind it.
+    pub fn first(row: &[u32]) -> Option<(Offer, &[u32])>
+        ensures { λ r. ⌜ FirstSays offers-in offer-of (now (row .entry)) r ⌝ }
+    {
+        let [proc, args, at, rest @ ..] = row else {
+            return None;
+        };
+        let offer = Offer {
+            proc: *proc,
+            args: *args,
+            at: *at,
+        };
+        Some((offer, rest))
+    }
+}
+
+impl Fit {
+    // The first fit of a row of them, and the row behind it.
+    pub fn first(row: &[u32]) -> Option<(Fit, &[u32])>
+        ensures { λ r. ⌜ FirstSays fits-in fit-of (now (row .entry)) r ⌝ }
+    {
+        let [at, kind, want, rest @ ..] = row else {
+            return None;
+        };
+        let fit = Fit {
+            at: *at,
+            kind: *kind,
+            want: *want,
+        };
+        Some((fit, rest))
+    }
+
+    // Whether the fit is of a place in a code of so many words, of one of the three kinds, and names one of so many wants if it has to.
+    pub fn is_inside(&self, code: usize, wants: usize) -> bool
+        ensures { λ r. ⌜ r ≡ fits-inside code wants (fit-of (now (self .entry)) ∷ []) ⌝ }
+    {
+        (self.at as usize) < code
+            && self.kind < 3
+            && (self.kind < 2 || (self.want as usize) < wants)
+    }
+}
+
+// Whether each offer begins in a code of so many words.
+fn offers_inside(offers: &[u32], code: usize) -> bool
+    ensures { λ r. ⌜ r ≡ offers-inside code (offers-in (now (offers .entry))) ⌝ }
+{
+    let mut left = offers;
+    while let Some((offer, rest)) = Offer::first(left) {
+        if offer.at as usize >= code {
+            return false;
+        }
+        left = rest;
+    }
+    true
+}
+
+// Whether each fit is inside an object with so many words of code and so many wants.
+fn fits_inside(fits: &[u32], code: usize, wants: usize) -> bool
+    ensures { λ r. ⌜ r ≡ fits-inside code wants (fits-in (now (fits .entry))) ⌝ }
+{
+    let mut left = fits;
+    while let Some((fit, rest)) = Fit::first(left) {
+        if !fit.is_inside(code, wants) {
+            return false;
+        }
+        left = rest;
+    }
+    true
+}
+
+impl<'a> ObjectView<'a> {
+    // The object at the front of a row, and the row behind it; none where the row ends before the object does.
+    pub fn first(row: &'a [u32]) -> Option<(ObjectView<'a>, &'a [u32])>
+        ensures { λ r. ⌜ said r ≡ front (now (row .entry)) ⌝ }
+    {
+        let [name, words, wants, offers, code, fits, rest @ ..] = row else {
+            return None;
+        };
+        let wants = 3 * *wants as usize;
+        let offers = 3 * *offers as usize;
+        let code = *code as usize;
+        let fits = 3 * *fits as usize;
+        if rest.len() < wants + offers + code + fits {
+            return None;
+        }
+        let (wants, rest) = rest.split_at(wants);
+        let (offers, rest) = rest.split_at(offers);
+        let (code, rest) = rest.split_at(code);
+        let (fits, rest) = rest.split_at(fits);
+        let view = ObjectView {
+            name: *name,
+            words: *words,
+            wants,
+            offers,
+            code,
+            fits,
+        };
+        Some((view, rest))
+    }
+
+    // Whether the object keeps to the limits: of its words, of the places of its offers, and of its fits.
+    pub fn is_sound(&self) -> bool
+        ensures { λ r. ⌜ r ≡ sound (object-of (now (self .entry))) ⌝ }
+    {
+        let code = self.code.len();
+        self.words <= 4096
+            && offers_inside(self.offers, code)
+            && fits_inside(self.fits, code, self.wants.len() / 3)
+    }
+}
+
+// The most words that a row of objects has.
+pub const MOST_WORDS: usize = 16_777_216;
+
+// The most objects that a row says.
+pub const MOST_OBJECTS: usize = 256;
+
+// A row that says no list of objects.
+#[derive(Clone, Copy, PartialEq, Eq, Debug)]
+pub struct NoObject;
+
+// A reader of objects: the row that is left, and how many objects may still come.
+#[derive(Clone, Copy, Debug)]
+pub struct Objects<'a> {
+    rest: &'a [u32],
+    left: usize,
+}
+
+impl<'a> Objects<'a> {
+    // A reader of the whole row; none where the row is too long.
+    pub fn new(row: &'a [u32]) -> Option<Objects<'a>>
+        ensures { λ r. ⌜ BegunSays (now (row .entry)) r ⌝ }
+    {
+        if row.len() > MOST_WORDS {
+            return None;
+        }
+        Some(Objects {
+            rest: row,
+            left: MOST_OBJECTS,
+        })
+    }
+
+    // The next object, or none at the row's end; a refusal says that the row is no list of objects.
+    pub fn next(&mut self) -> Result<Option<ObjectView<'a>>, NoObject>
+        ensures { λ r. ⌜ NextSays (now (self .entry)) (now (self .exit)) r ⌝ }
+    {
+        if self.rest.is_empty() {
+            return Ok(None);
+        }
+        if self.left == 0 {
+            return Err(NoObject);
+        }
+        let Some((view, rest)) = ObjectView::first(self.rest) else {
+            return Err(NoObject);
+        };
+        if !view.is_sound() {
+            return Err(NoObject);
+        }
+        self.rest = rest;
+        self.left -= 1;
+        Ok(Some(view))
+    }
+}
+
+// A row says at most one list of objects.
+pub fn one_list()
+    ensures { λ _. ⌜ One-list ⌝ }
+{}
