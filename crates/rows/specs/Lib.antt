@@ -6,6 +6,7 @@ pub mod Frames
 pub mod Formed
 pub mod Objects
 pub mod UnitRows
+pub mod Signs
 pub mod ObjectRows
 pub mod ObjectViews
 pub mod ObjectReading

@@ -1,3 +1,4 @@
 // Units and objects as rows of words, and the operations on words that units have.
 pub mod objects;
 pub mod operations;
+pub mod signs;
