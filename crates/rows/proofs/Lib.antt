@@ -6,3 +6,7 @@ pub mod FrontRows
 pub mod ObjectLists
 pub mod Inside
 pub mod Reader
+pub mod ExprParts
+pub mod SignFronts
+pub mod OneExpr
+pub mod OneUnit

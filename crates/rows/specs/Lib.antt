@@ -10,3 +10,4 @@ pub mod Signs
 pub mod ObjectRows
 pub mod ObjectViews
 pub mod ObjectReading
+pub mod UnitViews
