@@ -10,3 +10,6 @@ pub mod ExprParts
 pub mod SignFronts
 pub mod OneExpr
 pub mod OneUnit
+pub mod Arities
+pub mod RightParts
+pub mod BodyReading

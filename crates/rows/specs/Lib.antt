@@ -11,3 +11,4 @@ pub mod ObjectRows
 pub mod ObjectViews
 pub mod ObjectReading
 pub mod UnitViews
+pub mod Bodies

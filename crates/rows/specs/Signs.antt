@@ -2,7 +2,7 @@
 use mathlib.Core.Path.{_≡_}
 use mathlib.Core.Bool.{cond}
 use mathlib.Core.List.{List, [], _∷_, _++_}
-use Prim.Native.Nat.{ℕ, _-_}
+use Prim.Native.Nat.{ℕ, _-_, _≤_}
 use lib.ListN.{length, drop}
 use lib.Dec.{ltb}
 use Rattle.std.specs.declared.option.Option.{Option}
@@ -90,7 +90,13 @@ parts (out e) = cons e nil
 parts next = nil
 parts (call c es) = es
 
--- what a reader of one sign gives: the sign that stands in front of the row, with the number of its words, or that none stands there
+-- the first n words of a row are those of the sign s
+pub record Signed (row : List ℕ) (s : Sign) (n : ℕ) : Type 0 where
+  pub inside : n ≤ length row
+  pub size : n ≡ length (rowSign s)
+  pub begins : row ≡ rowSign s ++ drop n row
+
+-- what a reader of one sign gives: the sign in front of a row and how many words it takes, or that no sign stands there
 abbrev pub SignSays : List ℕ → Option (Sign × ℕ) → Type 0
 SignSays row None = (s : Sign) (rest : List ℕ) → row ≡ rowSign s ++ rest → ⊥
-SignSays row (Some r) = (r .1 ≡ length (rowSign (r .0))) × (row ≡ rowSign (r .0) ++ drop (r .1) row)
+SignSays row (Some r) = Signed row (r .0) (r .1)

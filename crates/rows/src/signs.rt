@@ -64,13 +64,13 @@ pub enum Target {
 
 impl Callee {
     // What the callee is in a unit with so many wants.
-    pub fn target(self, wants: u32) -> Target
+    pub fn target(self, wants: usize) -> Target
         ensures { λ r. ⌜ r ≡ target-of wants self ⌝ }
     {
-        if self.0 < wants {
+        if (self.0 as usize) < wants {
             Target::Want(self.0)
         } else {
-            Target::Own(Procedure(self.0 - wants))
+            Target::Own(Procedure(self.0 - wants as u32))
         }
     }
 }
