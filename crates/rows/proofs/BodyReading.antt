@@ -45,7 +45,7 @@ front-begins f = record { size = f .size; begins = f .begins }
 pub front-says : {X : Type 0} (written : X → List ℕ) (Ok : X → Type 0) {row : List ℕ} {n : ℕ} (x : X) → Ok x → Begins row n (written x) → FrontSays written Ok row (Some n)
 front-says written Ok x ok h = (begins-inside (written x) h, (x, record { right = ok; size = h .size; begins = h .begins }))
 
-row-node : (s : Sign) (es : Exprs) → count es ≡ part-count s → rowExpr (node s es) ≡ rowSign s ++ rowExprs es
+pub row-node : (s : Sign) (es : Exprs) → count es ≡ part-count s → rowExpr (node s es) ≡ rowSign s ++ rowExprs es
 row-node s es c = row-parts (node s es) ∙ ap₂ (λ t fs. rowSign t ++ rowExprs fs) (made s es c .sign) (made s es c .parts)
 
 module _ (u : SourceUnit) (k d : ℕ) (row : List ℕ) where

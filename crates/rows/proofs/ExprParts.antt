@@ -1,8 +1,9 @@
 -- An expression is its sign and its parts: its row, and induction over the parts.
 use mathlib.Core.Path.{_≡_, refl, sym, ap, _∙_}
 use mathlib.Core.List.{List, [], _∷_, _++_}
-use Prim.Native.Nat.{ℕ, zero, suc}
+use Prim.Native.Nat.{ℕ, _≤_}
 use native.Mathlib.Omega.{arith}
+use lib.ListN.{length}
 use Rattle.std.specs.declared.option.Option.{Option}
 use Rattle.std.specs.declared.option.Option.the-variants.{Some, None}
 use Rattle.std.specs.Options.{mapped}
@@ -42,6 +43,18 @@ nth-number Mul = refl
 nth-number Div = refl
 nth-number Less = refl
 nth-number Same = refl
+
+pub sign-some : (s : Sign) → 1 ≤ length (rowSign s)
+sign-some (Number n) = omega arith
+sign-some (Argument i) = omega arith
+sign-some (Word i) = omega arith
+sign-some (Operation o) = omega arith
+sign-some If = omega arith
+sign-some (Keep i) = omega arith
+sign-some Then = omega arith
+sign-some Out = omega arith
+sign-some Next = omega arith
+sign-some (Call c n) = omega arith
 
 -- the row of an expression is its sign's and then its parts'
 pub row-parts : (e : Expr) → rowExpr e ≡ rowSign (sign-of e) ++ rowExprs (parts e)

@@ -13,3 +13,4 @@ pub mod OneUnit
 pub mod Arities
 pub mod RightParts
 pub mod BodyReading
+pub mod Skipping

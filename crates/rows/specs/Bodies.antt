@@ -57,3 +57,7 @@ pub record Right-parts (u : SourceUnit) (k d n : ℕ) (es : Exprs) : Type 0 wher
   pub count : count es ≡ n
   pub deep : depths es ≤ d
   pub formed : T (formed-args u k es)
+
+-- any expression
+abbrev pub Any : Expr → Type 0
+Any e = Unit {0}

@@ -4,7 +4,7 @@ ghost use Prim.Native.Nat.{ℕ, _≤_};
 ghost use lib.ListN.{length};
 ghost use Rattle.rows.specs.Units.{Expr, arity};
 ghost use Rattle.rows.specs.UnitRows.{rowExpr, rowExprs};
-ghost use Rattle.rows.specs.Bodies.{outline, allowed, FrontSays, Right, Right-parts};
+ghost use Rattle.rows.specs.Bodies.{outline, allowed, FrontSays, Any, Right, Right-parts};
 use crate::signs::Callee;
 use crate::signs::Procedure;
 use crate::signs::Sign;
@@ -73,4 +73,20 @@ impl Scope<'_> {
         let rest = self.expressions(&row[first..], count - 1, depth)?;
         Some(first + rest)
     }
+}
+
+// How many words the expression at the front of a row takes, whatever it names and however deep it is; none where no expression stands there.
+pub fn skip(row: &[u32]) -> Option<usize>
+    requires { ⌜ length (now row) ≤ 65536 ⌝ }
+    ensures { λ r. ⌜ FrontSays rowExpr Any (now (row .entry)) r ⌝ }
+{
+    let mut left = row;
+    // how many expressions are still to come
+    let mut pending: usize = 1;
+    while pending > 0 {
+        let (sign, size) = Sign::read(left)?;
+        left = &left[size..];
+        pending = pending - 1 + sign.parts() as usize;
+    }
+    Some(row.len() - left.len())
 }
