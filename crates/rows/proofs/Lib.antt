@@ -14,3 +14,4 @@ pub mod Arities
 pub mod RightParts
 pub mod BodyReading
 pub mod Skipping
+pub mod UnitCuts

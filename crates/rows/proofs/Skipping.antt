@@ -1,7 +1,7 @@
 -- Skipping an expression sign by sign: the parts of each join the expressions that are still to come.
 use mathlib.Core.Path.{_≡_, refl, sym, ap, ap₂, _∙_}
 use mathlib.Core.List.{List, [], _∷_, _++_}
-use Prim.Native.Nat.{ℕ, zero, suc, _+_, _-_, _*_, _^_, _<_, _≤_}
+use Prim.Native.Nat.{ℕ, zero, suc, _+_, _-_, _<_, _≤_}
 use native.Mathlib.Omega.{arith}
 use lib.ListN.{length, drop}
 use Rattle.std.specs.declared.option.Option.the-variants.{Some, None}
@@ -11,7 +11,7 @@ use Rattle.rows.specs.UnitRows.{rowExpr, rowExprs}
 use Rattle.rows.specs.Signs.{rowSign, part-count, sign-of, parts, Signed, SignSays}
 use Rattle.rows.specs.Bodies.{FrontSays, Any}
 use Rattle.rows.specs.declared.signs.Sign.{Sign}
-use Rattle.rows.proofs.ExprParts.{sign-some, count-parts, node}
+use Rattle.rows.proofs.ExprParts.{sign-some, row-parts, count-parts, node}
 use Rattle.rows.proofs.OneExpr.{sign-first}
 use Rattle.rows.proofs.BodyReading.{sign-read, row-node, front-says}
 
@@ -75,14 +75,12 @@ pub record Pending (row left : List ℕ) (n : ℕ) : Type 0 where
   pub into : (rest : List ℕ) → One row rest → Several n left rest
   pub back : (rest : List ℕ) → Several n left rest → One row rest
   pub shorter : length left ≤ length row
-  pub few : n + length left * 2 ^ 32 ≤ 1 + length row * 2 ^ 32
 
 pub one-pending : (row : List ℕ) → Pending row row 1
 one-pending row = record {
   into = λ rest h. (cons (h .0) nil, refl, h .1 ∙ ap (λ s. s ++ rest) (sym (append-nil (rowExpr (h .0)))));
   back = only;
   shorter = omega arith;
-  few = omega arith;
 }
   where
     only : (rest : List ℕ) → Several 1 row rest → One row rest
@@ -91,12 +89,11 @@ one-pending row = record {
     only rest (cons e (cons f es), c, q) = absurd (omega arith)
 
 module _ (row left : List ℕ) (n n′ : ℕ) (more : n ≡ suc n′) (pending : Pending row left n) where
-  pub parts-pending : (s : Sign) (size l : ℕ) (behind : List ℕ) → Signed left s size → l ≡ part-count s → l < 2 ^ 32 → behind ≡ drop size left → Pending row behind (n′ + l)
-  parts-pending s size l behind signed asked small is = rw (asked, is) (record {
+  pub parts-pending : (s : Sign) (size l : ℕ) (behind : List ℕ) → Signed left s size → l ≡ part-count s → behind ≡ drop size left → Pending row behind (n′ + l)
+  parts-pending s size l behind signed asked is = rw (asked, is) (record {
     into = λ rest h. behind-sign left s size signed rest n′ (rw more at (pending .into rest h));
     back = λ rest h. pending .back rest (rw more (before-sign left s size signed rest n′ h));
     shorter = simp length-drop (omega (arith, pending .shorter));
-    few = simp length-drop (omega (arith, pending .few, signed .size, signed .inside, sign-some s));
   })
 
   pub none-skipped : SignSays left None → FrontSays rowExpr Any row None
@@ -105,6 +102,18 @@ module _ (row left : List ℕ) (n n′ : ℕ) (more : n ≡ suc n′) (pending :
       go : Several n left rest → ⊥
       go (nil, c, p) = omega arith
       go (cons g gs, c, p) = f (sign-of g) (rowExprs (parts g) ++ (rowExprs gs ++ rest)) (p ∙ (append-assoc (rowExpr g) (rowExprs gs) rest ∙ sign-first g (rowExprs gs ++ rest)))
+
+-- an expression is a word or more
+some-words : (es : Exprs) → count es ≤ length (rowExprs es)
+some-words nil = omega arith
+some-words (cons e es) =
+    let first : 1 ≤ length (rowExpr e) = rw (row-parts e) (simp length-append (omega (arith, sign-some (sign-of e)))) in
+    simp length-append (omega (arith, some-words es))
+
+pub too-short : (row left : List ℕ) (n : ℕ) → Pending row left n → length left < n → FrontSays rowExpr Any row None
+too-short row left n pending short e rest ok q =
+    let h = pending .into rest (e, q) in
+    omega (arith, h .1, some-words (h .0), simp length-append at (ap length (h .2)))
 
 pub all-skipped : (row left : List ℕ) (n : ℕ) → n ≡ 0 → Pending row left n → FrontSays rowExpr Any row (Some (length row - length left))
 all-skipped row left n z pending =

@@ -1,9 +1,64 @@
 -- Units read off a row: the unit that a view of the row stands for, and what the reader promises.
 use mathlib.Core.Path.{_≡_}
-use mathlib.Core.List.{List}
-use Prim.Native.Nat.{ℕ}
-use Rattle.rows.specs.Units.{SourceUnit}
-use Rattle.rows.specs.UnitRows.{Unit-row}
+use mathlib.Core.Bool.{Bool, true, false}
+use mathlib.Core.List.{List, _∷_, _++_, map}
+use Prim.Native.Nat.{ℕ, _≤_}
+use lib.Dec.{T}
+use lib.ListN.{length}
+use denote.Ref.{now}
+use Rattle.std.specs.declared.option.Option.{Option}
+use Rattle.std.specs.declared.option.Option.the-variants.{Some, None}
+use Rattle.std.specs.shelf.Lists.{All}
+use Rattle.rows.specs.Units.{Proc, SourceUnit}
+use Rattle.rows.specs.UnitRows.{rowWants, rowProcs, Unit-row}
+use Rattle.rows.specs.ObjectViews.{wants-in}
+use Rattle.rows.specs.Bodies.{Right}
+use Rattle.rows.specs.declared.units.UnitView.{UnitView}
+
+-- the view v shows the unit u
+pub record View-of (v : UnitView) (u : SourceUnit) : Type 0 where
+  pub name : v .name ≡ u .name
+  pub words : v .words ≡ u .words
+  pub wants : now (v .wants) ≡ rowWants (u .wants)
+  pub count : v .count ≡ length (u .procs)
+  pub procs : now (v .procs) ≡ rowProcs (u .procs)
+  pub offers : now (v .offers) ≡ u .offers
+
+-- the row is cut into the parts of v, whose sizes are within the limits
+pub record Cut (row : List ℕ) (v : UnitView) : Type 0 where
+  pub whole : rowWants (wants-in (now (v .wants))) ≡ now (v .wants)
+  pub parts : row ≡ v .name ∷ v .words ∷ length (wants-in (now (v .wants))) ∷ v .count ∷ length (now (v .offers)) ∷ (now (v .wants) ++ (now (v .procs) ++ now (v .offers)))
+  pub short : length row ≤ 65536
+  pub words : v .words ≤ 4096
+  pub wants : length (wants-in (now (v .wants))) ≤ 256
+  pub procs : v .count ≤ 256
+
+-- a row that cannot be cut says no unit
+abbrev pub CutSays : List ℕ → Option UnitView → Type 0
+CutSays row None = (u : SourceUnit) → Unit-row row u → ⊥
+CutSays row (Some v) = Cut row v
+
+-- a row says the procedures ps, n of them, each as it should be
+pub record Procedures (Ok : Proc → Type 0) (n : ℕ) (row : List ℕ) (ps : List Proc) : Type 0 where
+  pub count : length ps ≡ n
+  pub says : rowProcs ps ≡ row
+  pub each : All Ok ps
+
+-- a procedure with few enough arguments; one whose body is well formed in u and not too deep
+abbrev pub Few-args : Proc → Type 0
+Few-args p = p .args ≤ 8
+
+abbrev pub Body-right : SourceUnit → Proc → Type 0
+Body-right u p = Right u (p .args) 256 (p .body)
+
+-- what a reader of arities gives: whether the row says so many procedures with few enough arguments, and how many arguments each of them takes
+abbrev pub AritySays : List ℕ → List ℕ → Bool → Type 0
+AritySays row arities true = (ps : List Proc) × Procedures Few-args (length arities) row ps × (map (λ p. p .args) ps ≡ arities)
+AritySays row arities false = (ps : List Proc) → Procedures Few-args (length arities) row ps → ⊥
+
+-- the row says n procedures whose bodies are right in u
+abbrev pub Bodies-right : SourceUnit → ℕ → List ℕ → Type 0
+Bodies-right u n row = (ps : List Proc) × Procedures (Body-right u) n row ps
 
 -- a row says at most one unit
 abbrev pub One-unit : Type 0

@@ -77,13 +77,15 @@ impl Scope<'_> {
 
 // How many words the expression at the front of a row takes, whatever it names and however deep it is; none where no expression stands there.
 pub fn skip(row: &[u32]) -> Option<usize>
-    requires { ⌜ length (now row) ≤ 65536 ⌝ }
     ensures { λ r. ⌜ FrontSays rowExpr Any (now (row .entry)) r ⌝ }
 {
     let mut left = row;
-    // how many expressions are still to come
+    // how many expressions are still to come, of a word or more each
     let mut pending: usize = 1;
     while pending > 0 {
+        if pending > left.len() {
+            return None;
+        }
         let (sign, size) = Sign::read(left)?;
         left = &left[size..];
         pending = pending - 1 + sign.parts() as usize;

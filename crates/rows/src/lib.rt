@@ -3,3 +3,4 @@ pub mod bodies;
 pub mod objects;
 pub mod operations;
 pub mod signs;
+pub mod units;
