@@ -15,3 +15,4 @@ pub mod RightParts
 pub mod BodyReading
 pub mod Skipping
 pub mod UnitCuts
+pub mod ProcReading

@@ -19,9 +19,12 @@ use Rattle.rows.specs.declared.bodies.Scope.{Scope}
 abbrev pub bodiless : ℕ → Proc
 bodiless n = record { args = n; body = next }
 
--- a unit as far as a scope knows it
+-- a unit with so many words, these wants (three words each) and procedures of so many arguments, as far as that says what a body may name
+abbrev pub outlined : ℕ → List ℕ → List ℕ → SourceUnit
+outlined words wants arities = record { name = 0; words = words; wants = wants-in wants; procs = map bodiless arities; offers = [] }
+
 abbrev pub outline : Scope → SourceUnit
-outline s = record { name = 0; words = s .words; wants = wants-in (now (s .wants)); procs = map bodiless (now (s .arities)); offers = [] }
+outline s = outlined (s .words) (now (s .wants)) (now (s .arities))
 
 -- whether what a sign names is there in unit u, in a procedure of k arguments
 abbrev pub allowed : SourceUnit → ℕ → Sign → Bool

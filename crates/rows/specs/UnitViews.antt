@@ -51,10 +51,10 @@ Few-args p = p .args ≤ 8
 abbrev pub Body-right : SourceUnit → Proc → Type 0
 Body-right u p = Right u (p .args) 256 (p .body)
 
--- what a reader of arities gives: whether the row says so many procedures with few enough arguments, and how many arguments each of them takes
-abbrev pub AritySays : List ℕ → List ℕ → Bool → Type 0
-AritySays row arities true = (ps : List Proc) × Procedures Few-args (length arities) row ps × (map (λ p. p .args) ps ≡ arities)
-AritySays row arities false = (ps : List Proc) → Procedures Few-args (length arities) row ps → ⊥
+-- what a reader of arities gives: whether the row says n procedures with few enough arguments, and then how many arguments each of them takes
+abbrev pub AritySays : ℕ → List ℕ → List ℕ → Bool → Type 0
+AritySays n row arities true = (ps : List Proc) × Procedures Few-args n row ps × (map (λ p. p .args) ps ≡ arities)
+AritySays n row arities false = (ps : List Proc) → Procedures Few-args n row ps → ⊥
 
 -- the row says n procedures whose bodies are right in u
 abbrev pub Bodies-right : SourceUnit → ℕ → List ℕ → Type 0

@@ -7,6 +7,7 @@ ghost use Rattle.std.specs.Orderings.{Decides};
 ghost use Rattle.rows.specs.Units.{Want, Proc};
 ghost use Rattle.rows.specs.UnitRows.{all-below, small-wants};
 ghost use Rattle.rows.specs.ObjectViews.{wants-in};
+ghost use Rattle.rows.specs.Bodies.{outlined};
 ghost use Rattle.rows.specs.UnitViews.{One-unit, CutSays, AritySays, Bodies-right};
 use crate::bodies::Scope;
 use crate::bodies::skip;
@@ -66,6 +67,27 @@ fn offers_below(offers: &[u32], count: u32) -> bool
     true
 }
 
+// Writes how many arguments each procedure takes; false where the row does not say so many procedures with few enough arguments.
+fn read_arities(procs: &[u32], arities: &mut [u32]) -> bool
+    ensures { λ r. ⌜ AritySays (length (now (arities .entry))) (now (procs .entry)) (now (arities .exit)) r ⌝ }
+{
+    let mut left = procs;
+    for arity in arities.iter_mut() {
+        let [args, body @ ..] = left else {
+            return false;
+        };
+        if *args > MOST_ARGS {
+            return false;
+        }
+        let Some(size) = skip(body) else {
+            return false;
+        };
+        *arity = *args;
+        left = &body[size..];
+    }
+    left.is_empty()
+}
+
 impl<'a> UnitView<'a> {
     // The view of a row that is cut by its counts alone; none where they do not fit the row or the limits.
     fn cut(row: &'a [u32]) -> Option<UnitView<'a>>
@@ -92,5 +114,28 @@ impl<'a> UnitView<'a> {
             procs: bodies,
             offers,
         })
+    }
+
+    // Whether each body is well formed and not too deep, where the procedures take so many arguments.
+    fn bodies_right(self, arities: &'a [u32]) -> bool
+        ensures { λ r. ⌜ Decides r (Bodies-right (outlined (self .entry .words) (now (self .entry .wants)) (now (arities .entry))) (length (now (arities .entry))) (now (self .entry .procs))) ⌝ }
+    {
+        let mut left = self.procs;
+        for _ in arities {
+            let [args, body @ ..] = left else {
+                return false;
+            };
+            let scope = Scope {
+                args: *args,
+                words: self.words,
+                wants: self.wants,
+                arities,
+            };
+            let Some(size) = scope.expression(body, MOST_DEPTH) else {
+                return false;
+            };
+            left = &body[size..];
+        }
+        left.is_empty()
     }
 }
