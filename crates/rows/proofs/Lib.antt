@@ -16,3 +16,5 @@ pub mod BodyReading
 pub mod Skipping
 pub mod UnitCuts
 pub mod ProcReading
+pub mod Outlines
+pub mod UnitReading

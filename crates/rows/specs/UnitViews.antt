@@ -2,18 +2,22 @@
 use mathlib.Core.Path.{_≡_}
 use mathlib.Core.Bool.{Bool, true, false}
 use mathlib.Core.List.{List, _∷_, _++_, map}
-use Prim.Native.Nat.{ℕ, _≤_}
+use Prim.Native.Nat.{ℕ, _<_, _≤_}
 use lib.Dec.{T}
-use lib.ListN.{length}
+use lib.ListN.{length, drop}
 use denote.Ref.{now}
 use Rattle.std.specs.declared.option.Option.{Option}
 use Rattle.std.specs.declared.option.Option.the-variants.{Some, None}
+use Rattle.std.specs.declared.result.Result.{Result}
+use Rattle.std.specs.declared.result.Result.the-variants.{Ok, Err}
 use Rattle.std.specs.shelf.Lists.{All}
 use Rattle.rows.specs.Units.{Proc, SourceUnit}
 use Rattle.rows.specs.UnitRows.{rowWants, rowProcs, Unit-row}
 use Rattle.rows.specs.ObjectViews.{wants-in}
 use Rattle.rows.specs.Bodies.{Right}
 use Rattle.rows.specs.declared.units.UnitView.{UnitView}
+use Rattle.rows.specs.declared.units.Refusal.{Refusal}
+use Rattle.rows.specs.declared.units.Refusal.the-variants.{NoUnit, Short}
 
 -- the view v shows the unit u
 pub record View-of (v : UnitView) (u : SourceUnit) : Type 0 where
@@ -59,6 +63,19 @@ AritySays n row arities false = (ps : List Proc) → Procedures Few-args n row p
 -- the row says n procedures whose bodies are right in u
 abbrev pub Bodies-right : SourceUnit → ℕ → List ℕ → Type 0
 Bodies-right u n row = (ps : List Proc) × Procedures (Body-right u) n row ps
+
+-- the row says the unit u, which v shows; how many arguments its procedures take stands first in the lent words, and the rest is as it was
+pub record Shown (row old new : List ℕ) (v : UnitView) (u : SourceUnit) : Type 0 where
+  pub enough : 256 ≤ length old
+  pub unit : Unit-row row u
+  pub view : View-of v u
+  pub arities : new ≡ map (λ p. p .args) (u .procs) ++ drop (length (u .procs)) old
+
+-- what the reader of a unit gives; old and new: the lent words before and after
+abbrev pub ReadSays : List ℕ → List ℕ → List ℕ → Result UnitView Refusal → Type 0
+ReadSays row old new (Ok v) = (u : SourceUnit) × Shown row old new v u
+ReadSays row old new (Err NoUnit) = (256 ≤ length old) × ((u : SourceUnit) → Unit-row row u → ⊥) × (drop 256 new ≡ drop 256 old)
+ReadSays row old new (Err Short) = (length old < 256) × (new ≡ old)
 
 -- a row says at most one unit
 abbrev pub One-unit : Type 0

@@ -8,7 +8,7 @@ ghost use Rattle.rows.specs.Units.{Want, Proc};
 ghost use Rattle.rows.specs.UnitRows.{all-below, small-wants};
 ghost use Rattle.rows.specs.ObjectViews.{wants-in};
 ghost use Rattle.rows.specs.Bodies.{outlined};
-ghost use Rattle.rows.specs.UnitViews.{One-unit, CutSays, AritySays, Bodies-right};
+ghost use Rattle.rows.specs.UnitViews.{One-unit, CutSays, AritySays, Bodies-right, ReadSays};
 use crate::bodies::Scope;
 use crate::bodies::skip;
 use crate::objects::Want;
@@ -21,6 +21,7 @@ pub const MOST_WORDS: u32 = 4096;
 
 // The most wants and the most procedures that a unit has.
 pub const MOST_WANTS: u32 = 256;
+
 pub const MOST_PROCS: u32 = 256;
 
 // The most arguments that a want or a procedure takes.
@@ -39,6 +40,15 @@ pub struct UnitView<'a> {
     pub count: u32,
     pub procs: &'a [u32],
     pub offers: &'a [u32],
+}
+
+// Why a row is not read as a unit.
+#[derive(Clone, Copy, PartialEq, Eq, Debug)]
+pub enum Refusal {
+    // The row says no unit.
+    NoUnit,
+    // Fewer words are lent than a unit can have procedures.
+    Short,
 }
 
 // Whether each want takes few enough arguments.
@@ -96,7 +106,11 @@ impl<'a> UnitView<'a> {
         let [name, words, wants, procs, offers, rest @ ..] = row else {
             return None;
         };
-        if row.len() > MOST_ROWS || *words > MOST_WORDS || *wants > MOST_WANTS || *procs > MOST_PROCS {
+        if row.len() > MOST_ROWS
+            || *words > MOST_WORDS
+            || *wants > MOST_WANTS
+            || *procs > MOST_PROCS
+        {
             return None;
         }
         let wants_size = 3 * *wants as usize;
@@ -138,4 +152,35 @@ impl<'a> UnitView<'a> {
         }
         left.is_empty()
     }
+
+    // The unit that a row says. How many arguments its procedures take is written to the front of `arities`; a refusal may have changed words there.
+    pub fn read(row: &'a [u32], arities: &mut [u32]) -> Result<UnitView<'a>, Refusal>
+        ensures { λ r. ⌜ ReadSays (now (row .entry)) (now (arities .entry)) (now (arities .exit)) r ⌝ }
+    {
+        if arities.len() < MOST_PROCS as usize {
+            return Err(Refusal::Short);
+        }
+        let Some(view) = UnitView::cut(row) else {
+            return Err(Refusal::NoUnit);
+        };
+        if !wants_small(view.wants) {
+            return Err(Refusal::NoUnit);
+        }
+        if !offers_below(view.offers, view.count) {
+            return Err(Refusal::NoUnit);
+        }
+        let arities = &mut arities[0..view.count as usize];
+        if !read_arities(view.procs, arities) {
+            return Err(Refusal::NoUnit);
+        }
+        if !view.bodies_right(arities) {
+            return Err(Refusal::NoUnit);
+        }
+        Ok(view)
+    }
 }
+
+// A row says at most one unit.
+pub fn one_unit()
+    ensures { λ _. ⌜ One-unit ⌝ }
+{}
