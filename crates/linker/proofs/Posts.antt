@@ -17,7 +17,7 @@ use Rattle.rows.specs.ObjectRows.{Object-rows}
 use Rattle.rows.proofs.Decided.{none-since, some-since}
 use Rattle.rows.proofs.ObjectLists.{one-list}
 use Rattle.linker.specs.Linking.{Laid, lay, entry, codes, link-laid, link, twice}
-use Rattle.linker.specs.Tables.{laid-in, objects-of, all-code, Laying, All-settled}
+use Rattle.linker.specs.Tables.{laid-in, objects-of, all-code, Laying, Ready}
 use Rattle.linker.specs.Says.{LinkedPost}
 use Rattle.linker.specs.declared.laying.Laid.{Laid as LaidView}
 use Rattle.linker.specs.declared.laying.Extent.{Extent}
@@ -39,38 +39,45 @@ post-no-objects s o enough none = record { says = record { none = none; kept = r
 abbrev image-of : ℕ → List ℕ → List ℕ
 image-of start c = 8 ∷ start ∷ 0 ∷ 1 ∷ c
 
--- the objects are laid: t is the table's part that they take
+-- the objects are laid, in the table's part that they take
 module _ (s o : List ℕ) (enough : 4 + length s ≤ length o) (table : List LaidView) (e : Extent) (laying : Laying s table e) where
-  abbrev t : List LaidView
-  t = take (e .objects - 0) table
+  abbrev part : List LaidView
+  part = take (e .objects - 0) table
 
   abbrev os : List Object
   os = laying .objects
 
-  laid : laid-in t ≡ lay os 4 0
-  laid = ap (λ n. laid-in (take n table)) (sub-zero (e .objects)) ∙ laying .laid
+  laid-part : laid-in part ≡ lay os 4 0
+  laid-part = ap (λ n. laid-in (take n table)) (sub-zero (e .objects)) ∙ laying .laid
 
-  objects : objects-of t ≡ os
-  objects = sym (unlaid-in t) ∙ (ap unlaid laid ∙ unlaid-lay os 4 0)
-
-  abbrev begun : ℕ → Option (List ℕ)
-  begun start = codes (laid-in t) (laid-in t) >>= (λ c. Some (image-of start c))
+  objects-part : objects-of part ≡ os
+  objects-part = sym (unlaid-in part) ∙ (ap unlaid laid-part ∙ unlaid-lay os 4 0)
 
   code-small : all-code os ≤ length s
   code-small = rw (laying .rows .row) at (code-in-row os)
 
-  pub settled : All-settled (laid-in t)
-  settled = rw laid (settled-lay os 4 0 (laying .rows .inside) (omega (arith, code-small, laying .rows .short)))
+  pub post-twice : true ≡ twice (objects-of part) → LinkedPost s o o Twice
+  post-twice two = record { says = record { objects = os; rows = laying .rows; names = rw objects-part at (sym two); kept = refl }; space = has-space s o Twice enough (λ q. let z : _≡_ {A = ℕ} 0 1 = cc in omega arith); one-list = one-list }
 
-  pub image-fits : 4 + all-code (objects-of t) ≤ length o
-  image-fits = rw objects (omega (arith, code-small))
-
-  pub post-twice : true ≡ twice (objects-of t) → LinkedPost s o o Twice
-  post-twice two = record { says = record { objects = os; rows = laying .rows; names = rw objects at (sym two); kept = refl }; space = has-space s o Twice enough (λ q. let z : _≡_ {A = ℕ} 0 1 = cc in omega arith); one-list = one-list }
-
-  module _ (names : false ≡ twice (objects-of t)) where
+  -- t are the objects of the directory, and no two have one name
+  module _ (names : false ≡ twice (objects-of part)) (t : List LaidView) (is : t ≡ part) where
     no-two : twice os ≡ false
-    no-two = rw objects at (sym names)
+    no-two = rw objects-part at (sym names)
+
+    laid : laid-in t ≡ lay os 4 0
+    laid = ap laid-in is ∙ laid-part
+
+    objects : objects-of t ≡ os
+    objects = ap objects-of is ∙ objects-part
+
+    pub ready : Ready t
+    ready = record { apart = rw objects no-two; settled = rw laid (settled-lay os 4 0 (laying .rows .inside) (omega (arith, code-small, laying .rows .short))) }
+
+    pub image-fits : 4 + all-code (objects-of t) ≤ length o
+    image-fits = rw objects (omega (arith, code-small))
+
+    abbrev begun : ℕ → Option (List ℕ)
+    begun start = codes (laid-in t) (laid-in t) >>= (λ c. Some (image-of start c))
 
     post-missing : link-laid (laid-in t) ≡ None → LinkedPost s o o Missing
     post-missing none = record { says = record { objects = os; rows = laying .rows; names = no-two; missing = sym (ap link-laid laid) ∙ none; kept = refl }; space = has-space s o Missing enough (λ q. let z : _≡_ {A = ℕ} 0 1 = cc in omega arith); one-list = one-list }

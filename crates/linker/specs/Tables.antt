@@ -1,19 +1,23 @@
 -- Which laid objects a table of views means, and what laying promises.
 use mathlib.Core.Path.{_≡_}
+use mathlib.Core.Bool.{false}
 use mathlib.Core.List.{List, [], _∷_, map}
-use Prim.Native.Nat.{ℕ, _+_, _^_, _≤_}
-use lib.ListN.{length, take}
+use Prim.Native.Nat.{ℕ, _+_, _^_, _<_, _≤_}
+use lib.ListN.{length, getD, take}
 use lib.Dec.{T}
+use denote.Ref.{now}
 use Rattle.std.specs.declared.option.Option.{Option}
 use Rattle.std.specs.declared.option.Option.the-variants.{Some, None}
 use Rattle.std.specs.declared.result.Result.{Result}
 use Rattle.std.specs.declared.result.Result.the-variants.{Ok, Err}
 use Rattle.rows.specs.Options.{_>>=_}
+use Rattle.rows.specs.Units.{Want}
 use Rattle.rows.specs.Objects.{Object}
 use Rattle.rows.specs.ObjectRows.{sound, Object-rows}
 use Rattle.rows.specs.ObjectViews.{object-of}
 use Rattle.rows.specs.declared.objects.NoObjects.{NoObjects}
-use Rattle.linker.specs.Linking.{Laid, lay, offered, all-words}
+use Rattle.linker.specs.Linking.{Laid, lay, offered, places, fit-all, all-words, twice}
+use Rattle.linker.specs.declared.directory.Directory.{Directory}
 use Rattle.linker.specs.declared.laying.Laid.{Laid as LaidView}
 use Rattle.linker.specs.declared.laying.Extent.{Extent}
 
@@ -41,6 +45,26 @@ pub record Settled (l : Laid) : Type 0 where
 abbrev pub All-settled : List Laid → Type 0
 All-settled [] = Unit {0}
 All-settled (l ∷ ls) = Settled l × All-settled ls
+
+-- objects in which wants can be looked for: no two have one name, and all are settled
+pub record Ready (t : List LaidView) : Type 0 where
+  pub apart : twice (objects-of t) ≡ false
+  pub settled : All-settled (laid-in t)
+
+abbrev pub laid-by : Directory → List Laid
+laid-by d = laid-in (now (d .laid))
+
+-- what holds of the places of wants, where all are met
+abbrev pub Where-met : List Laid → List Want → (List ℕ → Type 0) → Type 0
+Where-met all ws P = (ps : List ℕ) → places all ws ≡ Some ps → P ps
+
+-- the places of the first of the wants are known
+abbrev pub Known : List Laid → List Want → List ℕ → Type 0
+Known all ws known = Where-met all ws (λ ps. (k : ℕ) → k < length known → getD known k 0 ≡ getD ps k 0)
+
+-- an object's code as it is fitted, where its wants have the places ps
+abbrev pub fitted-code : Laid → List ℕ → List ℕ
+fitted-code l ps = fit-all l ps (l .object .fits) (l .object .code)
 
 -- how many words of code objects have
 abbrev pub all-code : List Object → ℕ

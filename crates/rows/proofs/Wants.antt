@@ -1,15 +1,17 @@
 -- The want with a number, three words to each before it.
 use mathlib.Core.Path.{_≡_, refl, sym, ap, _∙_}
 use mathlib.Core.List.{List, [], _∷_}
-use Prim.Native.Nat.{ℕ, zero, suc, _+_, _-_, _*_, _≤_}
+use Prim.Native.Nat.{ℕ, zero, suc, _+_, _-_, _*_, _/_, _≤_}
 use native.Mathlib.Omega.{arith}
 use lib.ListN.{length, take, drop}
 use Rattle.std.proofs.shelf.Lists.{drop-all, take-rest}
+use Rattle.std.proofs.shelf.Maps.{nth-past}
 use Rattle.std.specs.declared.option.Option.{Option}
 use Rattle.std.specs.declared.option.Option.the-variants.{Some, None}
 use Rattle.std.specs.Finite.{nth}
 use Rattle.rows.specs.Units.{Want}
 use Rattle.rows.specs.ObjectViews.{wants-in}
+use Rattle.rows.proofs.Inside.{length-wants-in}
 
 abbrev pub first-of : List Want → Option Want
 first-of [] = None
@@ -27,8 +29,8 @@ nth-wants (suc k) (a ∷ b ∷ c ∷ s) = nth-wants k s ∙ ap (λ n. first-of (
     more : suc (suc (suc (3 * k))) ≡ 3 * suc k
     more = omega arith
 
-pub want-past : (k : ℕ) (s : List ℕ) → length s ≤ 3 * k → nth (wants-in s) k ≡ None
-want-past k s past = nth-wants k s ∙ ap (λ r. first-of (wants-in r)) (drop-all (3 * k) s past)
+pub want-past : (k : ℕ) (s : List ℕ) → length s / 3 ≤ k → nth (wants-in s) k ≡ None
+want-past k s past = nth-past (wants-in s) k (omega (arith, length-wants-in s))
 
 -- the same of the part of the row that begins there
 pub want-at : (k : ℕ) (s : List ℕ) (ws : List Want) → wants-in (take (length s - 3 * k) (drop (3 * k) s)) ≡ ws → nth (wants-in s) k ≡ first-of ws

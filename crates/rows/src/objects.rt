@@ -180,13 +180,13 @@ impl<'a> ObjectView<'a> {
     }
 
     // The want with that number, if it is there.
-    pub fn want(&self, number: u32) -> Option<Want>
+    pub fn want(&self, number: usize) -> Option<Want>
         ensures { λ r. ⌜ mapped want-of r ≡ nth (object-of (now (self .entry)) .wants) number ⌝ }
     {
-        let at = 3 * number as usize;
-        if at >= self.wants.len() {
+        if number >= self.wants.len() / 3 {
             return None;
         }
+        let at = 3 * number;
         match Want::first(&self.wants[at..]) {
             Some((want, _)) => Some(want),
             None => None,

@@ -3,8 +3,8 @@ use borrow.Author.Needs.{needs}
 use Rattle.rows.proofs.Wants.{want-past, want-at}
 use Rattle.rows.proofs.objects.ObjectView.want.Needs as need
 
-pub returns-then-at-self : need.returns-then-at-self
-returns-then-at-self c = sym (want-past (c .args .number) (c .args .self .now .wants .now) (search needs))
+pub returns-then-number-self : need.returns-then-number-self
+returns-then-number-self c = sym (want-past (c .args .number) (c .args .self .now .wants .now) (search needs))
 
 pub returns-in-Some : need.returns-in-Some
 returns-in-Some c = sym (want-at (c .args .number) (c .args .self .now .wants .now) _ (c .in-Some .ensures tt .reads))

@@ -1,6 +1,6 @@
 use mathlib.Core.Path.{sym, _∙_}
 use Rattle.linker.proofs.Names.{name-here, name-not-here, name-nowhere}
-use Rattle.linker.proofs.finding.has_name.Needs as need
+use Rattle.linker.proofs.directory.has_name.Needs as need
 
 pub returns-then-other-name : need.returns-then-other-name
 returns-then-other-name c = sym (sym (c .loop-other .inv) ∙ name-here (c .args .name) (c .args .laid .now) (c .loop-other .other-index) _ (c .loop-other-test .taken) (c .if-other-name .taken))

@@ -2,7 +2,7 @@ use mathlib.Core.Path.{_≡_}
 use lib.ListN.{length}
 use Rattle.linker.specs.Linking.{twice}
 use Rattle.linker.specs.Tables.{objects-of}
-use Rattle.linker.proofs.finding.twice.Given as given
+use Rattle.linker.proofs.directory.twice.Given as given
 
 abbrev pub Inv-loop-left : given.InvT-loop-left
 Inv-loop-left l = twice (objects-of (l .left)) ≡ twice (objects-of (l .laid))

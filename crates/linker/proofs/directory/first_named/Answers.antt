@@ -1,6 +1,6 @@
 use mathlib.Core.Path.{sym, _∙_}
 use Rattle.linker.proofs.Names.{named-here, named-not-here, named-nowhere}
-use Rattle.linker.proofs.finding.named.Needs as need
+use Rattle.linker.proofs.directory.first_named.Needs as need
 
 pub returns-then-one-name : need.returns-then-one-name
 returns-then-one-name c = sym (sym (c .loop-one .inv) ∙ named-here (c .args .name) (c .args .laid .now) (c .loop-one .one-index) _ (c .loop-one-test .taken) (c .if-one-name .taken))
