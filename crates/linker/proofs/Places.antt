@@ -3,9 +3,8 @@ use mathlib.Core.Path.{_≡_, refl, sym, ap, _∙_}
 use mathlib.Core.List.{List, [], _∷_}
 use Prim.Native.Nat.{ℕ, zero, suc, _+_, _<_, _≤_}
 use native.Mathlib.Omega.{arith}
-use borrow.Author.Count.{below-more}
-use lib.ListN.{length, getD, set, take}
-use Rattle.std.proofs.shelf.Lists.{getD-set-same, getD-set-other, getD-take, length-take}
+use lib.ListN.{length, getD, take}
+use Rattle.std.proofs.shelf.Lists.{getD-take, length-take}
 use Rattle.std.specs.declared.option.Option.{Option}
 use Rattle.std.specs.declared.option.Option.the-variants.{Some, None}
 use Rattle.std.specs.Finite.{nth}
@@ -44,10 +43,6 @@ no-place-at ls (x ∷ ws) ps (suc k) e n = found (places-first ls x ws ps e) (λ
   where
     found : (p : ℕ) × (qs : List ℕ) × (place ls x ≡ Some p) × (places ls ws ≡ Some qs) × (ps ≡ p ∷ qs) → ((qs : List ℕ) → places ls ws ≡ Some qs → getD qs k 0 ≡ 0) → getD ps (suc k) 0 ≡ 0
     found (p, qs, h, j, m) ih = rw m (ih qs j)
-
--- one place more is known
-pub known-more : (xs ps : List ℕ) (i v : ℕ) → i < length xs → ((k : ℕ) → k < i → getD xs k 0 ≡ getD ps k 0) → v ≡ getD ps i 0 → (k : ℕ) → k < i + 1 → getD (set xs i v) k 0 ≡ getD ps k 0
-known-more xs ps i v inside below here = below-more (λ k. getD (set xs i v) k 0 ≡ getD ps k 0) i (λ k h. getD-set-other xs i k v 0 (omega arith) ∙ below k h) (getD-set-same xs i v 0 inside ∙ here)
 
 -- the first n of the places that are known
 pub known-first : (xs ps : List ℕ) (n i : ℕ) → n ≤ i → ((k : ℕ) → k < i → getD xs k 0 ≡ getD ps k 0) → (k : ℕ) → k < length (take n xs) → getD (take n xs) k 0 ≡ getD ps k 0

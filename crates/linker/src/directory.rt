@@ -2,36 +2,23 @@
 ghost use mathlib.Core.Path.{_≡_};
 ghost use mathlib.Core.Bool.{false};
 ghost use Prim.Native.Nat.{_<_, _≤_};
-ghost use lib.ListN.{length};
+ghost use lib.ListN.{length, take};
 ghost use Rattle.std.specs.Options.{mapped};
-ghost use Rattle.linker.specs.Linking.{named as named-laid, has-name, twice as two-names};
-ghost use Rattle.linker.specs.Tables.{laid-of, laid-in, objects-of};
+ghost use Rattle.linker.specs.Linking.{named as named-laid, twice as two-names};
+ghost use Rattle.linker.specs.Tables.{laid-of, laid-in, objects-of, names-of};
 use crate::laying::Laid;
+use rows::objects::MOST_OBJECTS;
 
-// Whether one of the objects has the name.
-fn has_name(laid: &[Laid], name: u32) -> bool
-    ensures { λ r. ⌜ r ≡ has-name name (objects-of (now (laid .entry))) ⌝ }
+// The names of the objects, in their order.
+pub fn names_of(laid: &[Laid]) -> [u32; MOST_OBJECTS]
+    requires { ⌜ length (now laid) ≤ 256 ⌝ }
+    ensures { λ r. ⌜ take (length (now (laid .entry))) r ≡ names-of (now (laid .entry)) ⌝ }
 {
-    for other in laid {
-        if other.object.name == name {
-            return true;
-        }
+    let mut names = [0; MOST_OBJECTS];
+    for (number, one) in laid.iter().enumerate() {
+        names[number] = one.object.name;
     }
-    false
-}
-
-// Whether two of the objects have one name.
-pub fn twice(laid: &[Laid]) -> bool
-    ensures { λ r. ⌜ r ≡ two-names (objects-of (now (laid .entry))) ⌝ }
-{
-    let mut left = laid;
-    while let [first, rest @ ..] = left {
-        if has_name(rest, first.object.name) {
-            return true;
-        }
-        left = rest;
-    }
-    false
+    names
 }
 
 // The first object with the name, looked for from the first on.

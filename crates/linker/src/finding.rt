@@ -2,22 +2,25 @@
 ghost use mathlib.Core.Path.{_≡_};
 ghost use Rattle.std.specs.Options.{isSome};
 ghost use Rattle.rows.specs.ObjectViews.{want-of, wants-in, offers-in};
-ghost use Rattle.linker.specs.Linking.{offered as offered-place, place as place-of, places, entry as entry-of, codes};
-ghost use Rattle.linker.specs.Tables.{laid-of, laid-by, begin-of, Settled, Ready};
+ghost use Rattle.linker.specs.Linking.{offered as offered-place, place as place-of, places, entry as entry-of};
+ghost use Rattle.linker.specs.Tables.{laid-of, laid-by};
+ghost use Rattle.linker.specs.Finding.{begin-of, Settled, Ready};
+ghost use Rattle.linker.specs.Fitting.{MeetsSays};
 use crate::directory::Directory;
 use crate::laying::Laid;
 use rows::objects::Offer;
 use rows::objects::Want;
 
 // Where the first offer of the procedure with so many arguments begins.
-fn offered(offers: &[u32], proc: u32, args: u32) -> Option<u32>
+fn offered(offers: &[[u32; 3]], proc: u32, args: u32) -> Option<u32>
     ensures { λ r. ⌜ r ≡ offered-place proc args (offers-in (now (offers .entry))) ⌝ }
 {
     let mut left = offers;
     let at = loop {
-        let Some((offer, rest)) = Offer::first(left) else {
+        let Some((words, rest)) = left.split_first() else {
             break None;
         };
+        let offer = Offer::of(words);
         if offer.proc == proc && offer.args == args {
             break Some(offer.at);
         }
@@ -58,14 +61,14 @@ impl Directory<'_, '_> {
         }
     }
 
-    // Whether each of a row of wants is met.
-    fn meets(&self, wants: &[u32]) -> bool
+    // Whether each of the wants is met.
+    fn meets(&self, wants: &[[u32; 3]]) -> bool
         requires { ⌜ Ready (now (now self .laid)) ⌝ }
         ensures { λ r. ⌜ r ≡ isSome (places (laid-by (now (self .entry))) (wants-in (now (wants .entry)))) ⌝ }
     {
         let mut left = wants;
-        while let Some((want, rest)) = Want::first(left) {
-            if self.place(want).is_none() {
+        while let Some((words, rest)) = left.split_first() {
+            if self.place(Want::of(words)).is_none() {
                 return false;
             }
             left = rest;
@@ -76,7 +79,7 @@ impl Directory<'_, '_> {
     // Whether each want of each object is met.
     pub fn meets_all(&self) -> bool
         requires { ⌜ Ready (now (now self .laid)) ⌝ }
-        ensures { λ r. ⌜ r ≡ isSome (codes (laid-by (now (self .entry))) (laid-by (now (self .entry)))) ⌝ }
+        ensures { λ r. ⌜ MeetsSays (laid-by (now (self .entry))) r ⌝ }
     {
         for one in self.laid {
             if !self.meets(one.object.wants) {

@@ -1,17 +1,20 @@
-// Linking objects: laying them one behind the other, finding what each wants, and fitting their code.
+// Linking objects: laying them one behind the other, finding what each wants, fitting their code, and writing the image.
 ghost use Rattle.linker.specs.Says.{LinkedPost};
 
 mod directory;
 mod finding;
 mod fitting;
 mod laying;
+mod names;
+mod writing;
 
 use directory::Directory;
-use directory::twice;
-use fitting::write;
+use directory::names_of;
 use laying::Laid;
 use laying::lay;
+use names::twice;
 use rows::objects::MOST_OBJECTS;
+use writing::join;
 
 // What came of objects.
 #[derive(Clone, Copy, PartialEq, Eq, Debug)]
@@ -41,16 +44,12 @@ pub fn link(objects: &[u32], image: &mut [u32]) -> Linked
     };
     let count = extent.objects;
     let laid = &table[0..count];
-    if twice(laid) {
+    let names = names_of(laid);
+    if twice(&names[0..count]) {
         return Linked::Twice;
     }
-    let directory = Directory::new(laid);
-    let Some(entry) = directory.entry() else {
-        return Linked::Missing;
-    };
-    if !directory.meets_all() {
+    if !join(&Directory::new(laid), image) {
         return Linked::Missing;
     }
-    write(&directory, entry, image);
     Linked::Image(extent.image, extent.words)
 }

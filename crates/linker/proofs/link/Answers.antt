@@ -1,4 +1,4 @@
-use Rattle.linker.proofs.Posts.{post-no-space, post-no-objects, post-twice, ready, image-fits, post-no-entry, post-not-met, post-image}
+use Rattle.linker.proofs.Posts.{post-no-space, post-no-objects, post-twice, ready, image-fits, post-missing, post-image}
 use Rattle.linker.proofs.link.Needs as need
 
 pub returns-then-image-objects : need.returns-then-image-objects
@@ -8,22 +8,13 @@ pub returns-in-rest : need.returns-in-rest
 returns-in-rest c = post-no-objects (c .args .objects .now) (c .args .image .now) (c .if-image-objects .left) (c .in-rest .ensures tt)
 
 pub returns-then-twice : need.returns-then-twice
-returns-then-twice c = post-twice (c .args .objects .now) (c .args .image .now) (c .if-image-objects .left) (c .lay .last .table) (c .in-Ok .extent) (c .in-Ok .ensures tt) (c .if-twice .ensures tt)
+returns-then-twice c = post-twice (c .args .objects .now) (c .args .image .now) (c .if-image-objects .left) (c .lay .last .table) (c .in-Ok .extent) (c .in-Ok .ensures tt) (c .names-of-names .result) (c .names-of-names .ensures) (c .if-twice .ensures tt)
 
-pub entry-requires : need.entry-requires
-entry-requires c κs = ready (c .args .objects .now) (c .args .image .now) (c .if-image-objects .left) (c .lay .last .table) (c .in-Ok .extent) (c .in-Ok .ensures tt) (c .if-twice .ensures tt) (c .new-directory .result .laid .now) (c .new-directory .ensures)
+pub join-requires : need.join-requires
+join-requires c κs = record { ready = ready (c .args .objects .now) (c .args .image .now) (c .if-image-objects .left) (c .lay .last .table) (c .in-Ok .extent) (c .in-Ok .ensures tt) (c .names-of-names .result) (c .names-of-names .ensures) (c .if-twice .ensures tt) (c .new .result .laid .now) (c .new .ensures); space = image-fits (c .args .objects .now) (c .args .image .now) (c .if-image-objects .left) (c .lay .last .table) (c .in-Ok .extent) (c .in-Ok .ensures tt) (c .names-of-names .result) (c .names-of-names .ensures) (c .if-twice .ensures tt) (c .new .result .laid .now) (c .new .ensures) }
 
-pub returns-in-rest-entry : need.returns-in-rest-entry
-returns-in-rest-entry c = post-no-entry (c .args .objects .now) (c .args .image .now) (c .if-image-objects .left) (c .lay .last .table) (c .in-Ok .extent) (c .in-Ok .ensures tt) (c .if-twice .ensures tt) (c .new-directory .result .laid .now) (c .new-directory .ensures) (c .in-rest-entry .ensures tt)
-
-pub meets-all-requires : need.meets-all-requires
-meets-all-requires c κs = ready (c .args .objects .now) (c .args .image .now) (c .if-image-objects .left) (c .lay .last .table) (c .in-Ok .extent) (c .in-Ok .ensures tt) (c .if-twice .ensures tt) (c .new-directory .result .laid .now) (c .new-directory .ensures)
-
-pub returns-then-not-meets-all : need.returns-then-not-meets-all
-returns-then-not-meets-all c = post-not-met (c .args .objects .now) (c .args .image .now) (c .if-image-objects .left) (c .lay .last .table) (c .in-Ok .extent) (c .in-Ok .ensures tt) (c .if-twice .ensures tt) (c .new-directory .result .laid .now) (c .new-directory .ensures) (c .in-Some .entry) (c .in-Some .ensures tt) (c .if-not-meets-all .ensures tt)
-
-pub write-requires : need.write-requires
-write-requires c κs = record { ready = ready (c .args .objects .now) (c .args .image .now) (c .if-image-objects .left) (c .lay .last .table) (c .in-Ok .extent) (c .in-Ok .ensures tt) (c .if-twice .ensures tt) (c .new-directory .result .laid .now) (c .new-directory .ensures); space = image-fits (c .args .objects .now) (c .args .image .now) (c .if-image-objects .left) (c .lay .last .table) (c .in-Ok .extent) (c .in-Ok .ensures tt) (c .if-twice .ensures tt) (c .new-directory .result .laid .now) (c .new-directory .ensures) }
+pub returns-then-not-join : need.returns-then-not-join
+returns-then-not-join c = post-missing (c .args .objects .now) (c .args .image .now) (c .if-image-objects .left) (c .lay .last .table) (c .in-Ok .extent) (c .in-Ok .ensures tt) (c .names-of-names .result) (c .names-of-names .ensures) (c .if-twice .ensures tt) (c .new .result .laid .now) (c .new .ensures) (c .join .last .image) (c .if-not-join .ensures tt)
 
 pub returns : need.returns
-returns c = post-image (c .args .objects .now) (c .args .image .now) (c .if-image-objects .left) (c .lay .last .table) (c .in-Ok .extent) (c .in-Ok .ensures tt) (c .if-twice .ensures tt) (c .new-directory .result .laid .now) (c .new-directory .ensures) (c .in-Some .entry) (c .write .last .image) (c .in-Some .ensures tt) (c .if-not-meets-all .ensures tt) (c .write .ensures)
+returns c = post-image (c .args .objects .now) (c .args .image .now) (c .if-image-objects .left) (c .lay .last .table) (c .in-Ok .extent) (c .in-Ok .ensures tt) (c .names-of-names .result) (c .names-of-names .ensures) (c .if-twice .ensures tt) (c .new .result .laid .now) (c .new .ensures) (c .join .last .image) (c .if-not-join .ensures tt)

@@ -1,5 +1,5 @@
 use mathlib.Core.Path.{sym, _∙_}
-use Rattle.linker.proofs.Names.{named-here, named-not-here, named-nowhere}
+use Rattle.linker.proofs.Named.{named-here, named-not-here, named-nowhere}
 use Rattle.linker.proofs.directory.first_named.Needs as need
 
 pub returns-then-one-name : need.returns-then-one-name

@@ -6,8 +6,8 @@ use Rattle.linker.specs.Linking.{places}
 use Rattle.linker.specs.Tables.{laid-by}
 use Rattle.linker.proofs.directory.Directory.meets.Given as given
 
-abbrev pub Inv-loop-want : given.InvT-loop-want
-Inv-loop-want l = isSome (places (laid-by (l .self)) (wants-in (l .left))) ≡ isSome (places (laid-by (l .self)) (wants-in (l .wants)))
+abbrev pub Inv-loop-words : given.InvT-loop-words
+Inv-loop-words l = isSome (places (laid-by (l .self)) (wants-in (l .left))) ≡ isSome (places (laid-by (l .self)) (wants-in (l .wants)))
 
-abbrev pub μ-loop-want : given.MeasureT-loop-want
-μ-loop-want l = length (l .left)
+abbrev pub μ-loop-words : given.MeasureT-loop-words
+μ-loop-words l = length (l .left)

@@ -1,5 +1,5 @@
 use mathlib.Core.Path.{sym}
-use Rattle.linker.proofs.Names.{only-named}
+use Rattle.linker.proofs.Named.{only-named}
 use Rattle.linker.proofs.directory.Directory.named.Needs as need
 
 pub returns-then-likely-name : need.returns-then-likely-name

@@ -1,50 +1,29 @@
--- Looking for a name along a table, one object at a time.
-use mathlib.Core.Path.{_≡_, refl, sym, ap, _∙_}
-use mathlib.Core.Bool.{Bool, true, false, cond, _||_}
-use mathlib.Core.List.{List, [], _∷_, map}
-use Prim.Native.Nat.{ℕ, zero, suc, _+_, _-_, _<_, _≤_}
+-- Objects by their names.
+use mathlib.Core.Path.{_≡_, refl, sym, ap, ap₂, _∙_}
+use mathlib.Core.Bool.{true, false, _||_}
+use mathlib.Core.List.{List, [], _∷_, _++_, map}
+use Prim.Native.Nat.{ℕ, zero, suc, _+_, _<_, _≤_}
 use native.Mathlib.Omega.{arith}
 use lib.Dec.{eqb}
-use lib.ListN.{length, getD, take, drop}
-use Rattle.std.proofs.shelf.Lists.{at-drop-more, at-drop-all, take-rest}
+use lib.ListN.{length, getD, set, take, drop}
+use Rattle.std.proofs.shelf.Lists.{at-drop-more, at-drop-all, take-more-set, take-all, map-more}
 use Rattle.std.proofs.shelf.Tests.{eq-eqb, ne-eqb, or-right, or-parts, both-ways}
 use Rattle.std.specs.declared.option.Option.the-variants.{Some, None}
 use Rattle.linker.specs.Linking.{named, has-name, twice}
-use Rattle.linker.specs.Tables.{laid-of, laid-in, objects-of}
+use Rattle.linker.specs.Names.{stands-in, repeats}
+use Rattle.linker.specs.Tables.{laid-of, laid-in, objects-of, names-of}
 use Rattle.linker.specs.declared.laying.Laid.{Laid as LaidView}
 
+-- the loop that looks for a name
 module _ (n : ℕ) (t : List LaidView) (i : ℕ) (d : LaidView) (inside : i < length t) where
-  pub name-here : getD t i d .object .name ≡ n → has-name n (objects-of (drop i t)) ≡ true
-  name-here same = at-drop-more (λ ls. has-name n (objects-of ls)) t i d inside ∙ rw (eq-eqb n (getD t i d .object .name) (sym same)) refl
-
-  pub name-not-here : (getD t i d .object .name ≡ n → ⊥) → has-name n (objects-of (drop i t)) ≡ has-name n (objects-of (drop (i + 1) t))
-  name-not-here other = at-drop-more (λ ls. has-name n (objects-of ls)) t i d inside ∙ rw (ne-eqb n (getD t i d .object .name) (λ e. other (sym e))) refl
-
   pub named-here : getD t i d .object .name ≡ n → named n (laid-in (drop i t)) ≡ Some (laid-of (getD t i d))
   named-here same = at-drop-more (λ ls. named n (laid-in ls)) t i d inside ∙ rw (eq-eqb n (getD t i d .object .name) (sym same)) refl
 
   pub named-not-here : (getD t i d .object .name ≡ n → ⊥) → named n (laid-in (drop i t)) ≡ named n (laid-in (drop (i + 1) t))
   named-not-here other = at-drop-more (λ ls. named n (laid-in ls)) t i d inside ∙ rw (ne-eqb n (getD t i d .object .name) (λ e. other (sym e))) refl
 
-module _ (n : ℕ) (t : List LaidView) (i : ℕ) (end : length t ≤ i) where
-  pub name-nowhere : has-name n (objects-of (drop i t)) ≡ false
-  name-nowhere = at-drop-all (λ ls. has-name n (objects-of ls)) t i end
-
-  pub named-nowhere : named n (laid-in (drop i t)) ≡ None
-  named-nowhere = at-drop-all (λ ls. named n (laid-in ls)) t i end
-
--- the table behind its first object
-abbrev pub rest-of : List LaidView → List LaidView
-rest-of t = take (length t - 1) (drop 1 t)
-
--- two names are the first's once more behind it, or both behind it
-pub twice-first : (t : List LaidView) (d : LaidView) → 1 ≤ length t → twice (objects-of t) ≡ (has-name (getD t 0 d .object .name) (objects-of (rest-of t)) || twice (objects-of (rest-of t)))
-twice-first [] d some = absurd (omega arith)
-twice-first (x ∷ xs) d some = rw (take-rest (x ∷ xs) 1) refl
-
-pub twice-none : (t : List LaidView) → length t < 1 → twice (objects-of t) ≡ false
-twice-none [] none = refl
-twice-none (x ∷ xs) none = absurd (omega arith)
+pub named-nowhere : (n : ℕ) (t : List LaidView) (i : ℕ) → length t ≤ i → named n (laid-in (drop i t)) ≡ None
+named-nowhere n t i end = at-drop-all (λ ls. named n (laid-in ls)) t i end
 
 -- an object in the table has its name
 has-name-at : (n : ℕ) (t : List LaidView) (i : ℕ) (d : LaidView) → i < length t → getD t i d .object .name ≡ n → has-name n (objects-of t) ≡ true
@@ -63,3 +42,19 @@ only-named n (x ∷ t) (suc i) d apart inside same = rw (ne-eqb n (x .object .na
 
     other : n ≡ x .object .name → ⊥
     other e = both-ways (has-name (x .object .name) (objects-of t)) (parts .0) (has-name-at (x .object .name) t i d (omega arith) (same ∙ e))
+
+-- two objects have one name where two of the names are the same
+stands-in-names : (n : ℕ) (t : List LaidView) → stands-in n (names-of t) ≡ has-name n (objects-of t)
+stands-in-names n [] = refl
+stands-in-names n (x ∷ t) = ap (λ b. eqb n (x .object .name) || b) (stands-in-names n t)
+
+pub repeats-names : (t : List LaidView) → repeats (names-of t) ≡ twice (objects-of t)
+repeats-names [] = refl
+repeats-names (x ∷ t) = ap₂ (λ a b. a || b) (stands-in-names (x .object .name) t) (repeats-names t)
+
+-- the loop that writes the names down
+pub names-more : (names : List ℕ) (t : List LaidView) (i : ℕ) (d : LaidView) → i < length t → i < length names → take i names ≡ names-of (take i t) → take (i + 1) (set names i (getD t i d .object .name)) ≡ names-of (take (i + 1) t)
+names-more names t i d inside space so-far = take-more-set names i (getD t i d .object .name) space ∙ (ap (λ ns. ns ++ getD t i d .object .name ∷ []) so-far ∙ sym (map-more (λ l. l .object .name) t i d inside))
+
+pub names-all : (names : List ℕ) (t : List LaidView) (i : ℕ) → i ≡ length t → take i names ≡ names-of (take i t) → take (length t) names ≡ names-of t
+names-all names t i end so-far = ap (λ n. take n names) (sym end) ∙ (so-far ∙ ap names-of (take-all i t (omega arith)))

@@ -1,4 +1,4 @@
--- Words written behind the first of a list, by lending the list's part from there on.
+-- Words written behind the first of a list, whose part from there on is lent.
 use mathlib.Core.Path.{_≡_, sym, ap, _∙_}
 use mathlib.Core.List.{List, [], _∷_, _++_}
 use Prim.Native.Nat.{ℕ, _+_, _-_, _≤_}
@@ -27,10 +27,10 @@ module _ (w part f : List ℕ) (at n : ℕ) (long : length f ≡ n) (inside : at
   pub drop-behind : drop (at + n) (putMid at (length w - at) w part) ≡ drop n (drop at w)
   drop-behind = ap (drop (at + n)) written-behind ∙ drop-at (take at w ++ f) (drop n (drop at w)) (at + n) front-length
 
--- four words at the front, and then so many words behind them
-pub headed : (o part c : List ℕ) (e : ℕ) → 4 ≤ length o → part ≡ c ++ drop (length c) (take (length (set (set (set (set o 0 8) 1 e) 2 0) 3 1) - 4) (drop 4 (set (set (set (set o 0 8) 1 e) 2 0) 3 1))) → putMid 4 (length (set (set (set (set o 0 8) 1 e) 2 0) 3 1) - 4) (set (set (set (set o 0 8) 1 e) 2 0) 3 1) part ≡ 8 ∷ e ∷ 0 ∷ 1 ∷ (c ++ drop (4 + length c) o)
-headed [] part c e long is = absurd (omega arith)
-headed (x ∷ []) part c e long is = absurd (omega arith)
-headed (x ∷ y ∷ []) part c e long is = absurd (omega arith)
-headed (x ∷ y ∷ z ∷ []) part c e long is = absurd (omega arith)
-headed (x ∷ y ∷ z ∷ v ∷ o) part c e long is = ap (λ s. 8 ∷ e ∷ 0 ∷ 1 ∷ s) (part-behind (8 ∷ e ∷ 0 ∷ 1 ∷ o) part c 4 (length c) is ∙ ap (λ s. c ++ s) (drop-drop (length c) 4 (x ∷ y ∷ z ∷ v ∷ o)))
+-- four words at the front, and n words c behind them
+pub headed : (o part c : List ℕ) (e n : ℕ) → 4 ≤ length o → part ≡ c ++ drop n (take (length (set (set (set (set o 0 8) 1 e) 2 0) 3 1) - 4) (drop 4 (set (set (set (set o 0 8) 1 e) 2 0) 3 1))) → putMid 4 (length (set (set (set (set o 0 8) 1 e) 2 0) 3 1) - 4) (set (set (set (set o 0 8) 1 e) 2 0) 3 1) part ≡ 8 ∷ e ∷ 0 ∷ 1 ∷ (c ++ drop (4 + n) o)
+headed [] part c e n long is = absurd (omega arith)
+headed (x ∷ []) part c e n long is = absurd (omega arith)
+headed (x ∷ y ∷ []) part c e n long is = absurd (omega arith)
+headed (x ∷ y ∷ z ∷ []) part c e n long is = absurd (omega arith)
+headed (x ∷ y ∷ z ∷ v ∷ o) part c e n long is = ap (λ s. 8 ∷ e ∷ 0 ∷ 1 ∷ s) (part-behind (8 ∷ e ∷ 0 ∷ 1 ∷ o) part c 4 n is ∙ ap (λ s. c ++ s) (drop-drop n 4 (x ∷ y ∷ z ∷ v ∷ o)))
