@@ -1,10 +1,10 @@
 pub mod SoFar
-pub mod Names
+pub mod Named
 pub mod Settling
 pub mod Meeting
 pub mod Places
-pub mod Fits
-pub mod Behind
+pub mod Lent
 pub mod Written
 pub mod LaidObjects
+pub mod Joining
 pub mod Posts

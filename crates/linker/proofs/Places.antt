@@ -1,8 +1,10 @@
 -- The place of one want among those of all.
 use mathlib.Core.Path.{_≡_, refl, sym, ap, _∙_}
 use mathlib.Core.List.{List, [], _∷_}
-use Prim.Native.Nat.{ℕ, zero, suc}
-use lib.ListN.{getD}
+use Prim.Native.Nat.{ℕ, zero, suc, _+_, _<_, _≤_}
+use native.Mathlib.Omega.{arith}
+use lib.ListN.{length, getD, take}
+use Rattle.std.proofs.shelf.Lists.{getD-take, length-take}
 use Rattle.std.specs.declared.option.Option.{Option}
 use Rattle.std.specs.declared.option.Option.the-variants.{Some, None}
 use Rattle.std.specs.Finite.{nth}
@@ -41,3 +43,7 @@ no-place-at ls (x ∷ ws) ps (suc k) e n = found (places-first ls x ws ps e) (λ
   where
     found : (p : ℕ) × (qs : List ℕ) × (place ls x ≡ Some p) × (places ls ws ≡ Some qs) × (ps ≡ p ∷ qs) → ((qs : List ℕ) → places ls ws ≡ Some qs → getD qs k 0 ≡ 0) → getD ps (suc k) 0 ≡ 0
     found (p, qs, h, j, m) ih = rw m (ih qs j)
+
+-- the first n of the places that are known
+pub known-first : (xs ps : List ℕ) (n i : ℕ) → n ≤ i → ((k : ℕ) → k < i → getD xs k 0 ≡ getD ps k 0) → (k : ℕ) → k < length (take n xs) → getD (take n xs) k 0 ≡ getD ps k 0
+known-first xs ps n i few below k h = getD-take n xs k 0 (omega (arith, length-take n xs)) ∙ below k (omega (arith, length-take n xs))

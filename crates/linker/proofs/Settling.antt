@@ -12,7 +12,8 @@ use Rattle.rows.specs.Objects.{Offer, Object}
 use Rattle.rows.specs.ObjectRows.{offers-inside, fits-inside, sound}
 use Rattle.rows.proofs.Decided.{none≢some, some-injective, T-parts}
 use Rattle.linker.specs.Linking.{Laid, named, offered, entry}
-use Rattle.linker.specs.Tables.{laid-of, laid-in, begin-of, Settled, All-settled}
+use Rattle.linker.specs.Tables.{laid-of, laid-in}
+use Rattle.linker.specs.Finding.{begin-of, Settled, All-settled}
 use Rattle.linker.specs.declared.laying.Laid.{Laid as LaidView}
 
 -- a first that is taken or passed over

@@ -1,7 +1,7 @@
 -- The loop that lays objects: what has been laid so far, and what is still to come.
 use mathlib.Core.Path.{_≡_, refl, sym, ap, _∙_}
 use mathlib.Core.List.{List, [], _∷_, _++_, map}
-use Prim.Native.Nat.{ℕ, suc, _+_, _*_, _<_, _≤_}
+use Prim.Native.Nat.{ℕ, suc, _+_, _*_, _^_, _<_, _≤_}
 use native.Mathlib.Omega.{arith}
 use lib.Dec.{T, leb→le}
 use lib.ListN.{length, take, set}
@@ -18,7 +18,7 @@ use Rattle.rows.specs.declared.objects.ObjectView.{ObjectView}
 use Rattle.rows.specs.declared.objects.Objects.{Objects}
 use Rattle.rows.proofs.Decided.{mapped-some, T-parts}
 use Rattle.linker.specs.Linking.{Laid, lay, all-words}
-use Rattle.linker.specs.Tables.{laid-of, laid-in, all-code, Laying}
+use Rattle.linker.specs.Tables.{laid-of, laid-in, all-code, Behind, Laying}
 use Rattle.linker.specs.declared.laying.Laid.{Laid as LaidView}
 
 -- ls have been laid, up to the places c and w; os are still to be laid: all as they lie, and where code and words end
@@ -62,13 +62,19 @@ module _ (r₀ r r′ : Objects) (t : List LaidView) (n c w : ℕ) (v : ObjectVi
       words : w + (v .words + all-words os) ≡ w + v .words + all-words os
       words = omega arith
 
-  pub laid-more : So-far r₀ r′ (set t n here) (n + 1) (c + length (now (v .code))) (w + v .words)
-  laid-more = record {
+  pub behind-small : (c + length (now (v .code)) < 2 ^ 32) × (w + v .words < 2 ^ 32)
+  behind-small = (omega arith, omega (arith, words-small))
+
+  further : So-far r₀ r′ (set t n here) (n + 1) (c + length (now (v .code))) (w + v .words)
+  further = record {
     gives = so-far .gives ∙ (ap (mapped (grown (laid-in (take n t)) c w)) (given .gives) ∙ mapped-more _ _ (object-of v) grows (to-come r′));
     few = omega arith;
     short = omega arith;
     small = omega (arith, words-small);
   }
+
+  pub laid-more : (places : ℕ × ℕ) → Behind (laid-of here) places → So-far r₀ r′ (set t n here) (n + 1) (places .0) (places .1)
+  laid-more places behind = rw (behind .code, behind .words) further
 
 -- at the row's end all objects are laid
 pub laid-all : (s : List ℕ) (r₀ r : Objects) (t : List LaidView) (n c w : ℕ) → So-far r₀ r t n c w → Begun s r₀ → to-come r ≡ Some [] → length t ≡ 256 → Laying s t (record { objects = n; image = c; words = w })

@@ -1,7 +1,8 @@
 // Laying objects one behind the other: where the code and the words of each come to lie.
 ghost use mathlib.Core.Path.{_≡_};
+ghost use Prim.Native.Nat.{_+_, _^_, _<_};
 ghost use lib.ListN.{length};
-ghost use Rattle.linker.specs.Tables.{LaySays};
+ghost use Rattle.linker.specs.Tables.{laid-of, Behind, LaySays};
 use rows::objects::NoObjects;
 use rows::objects::ObjectView;
 use rows::objects::Objects;
@@ -28,6 +29,17 @@ impl Laid<'_> {
         code_at: 0,
         words_at: 0,
     };
+
+    // Where the code and the words of the next object come to lie: behind those of this one.
+    fn behind(&self) -> (u32, u32)
+        requires code { ⌜ laid-of (now self) .code-at + length (laid-of (now self) .object .code) < 2 ^ 32 ⌝ }
+        requires words { ⌜ laid-of (now self) .words-at + laid-of (now self) .object .words < 2 ^ 32 ⌝ }
+        ensures { λ r. ⌜ Behind (laid-of (now (self .entry))) r ⌝ }
+    {
+        let code_at = self.code_at + self.object.code.len() as u32;
+        let words_at = self.words_at + self.object.words;
+        (code_at, words_at)
+    }
 }
 
 // How many objects were laid, how many words their image has, and how many words the units have.
@@ -51,14 +63,16 @@ pub fn lay<'a>(row: &'a [u32], table: &mut [Laid<'a>]) -> Result<Extent, NoObjec
     let mut code_at = HEAD;
     let mut words_at = 0;
     while let Some(object) = reader.next()? {
-        table[count] = Laid {
+        let laid = Laid {
             object,
             code_at,
             words_at,
         };
+        table[count] = laid;
         count += 1;
-        code_at += object.code.len() as u32;
-        words_at += object.words;
+        let (next_code, next_words) = laid.behind();
+        code_at = next_code;
+        words_at = next_words;
     }
     Ok(Extent {
         objects: count,

@@ -6,7 +6,7 @@ use native.Mathlib.Omega.{arith}
 use lib.Dec.{T}
 use Rattle.std.specs.declared.option.Option.{Option}
 use Rattle.std.specs.declared.option.Option.the-variants.{Some, None}
-use Rattle.std.specs.Options.{mapped, isSome}
+use Rattle.std.specs.Options.{mapped, isSome, valueOr}
 use Rattle.std.proofs.shelf.Tests.{true≢false, false≢true}
 use Rattle.rows.specs.Options.{_>>=_}
 
@@ -23,6 +23,10 @@ none-since (Some x) e = absurd (false≢true e)
 pub some-since : {A : Type 0} (r : Option A) → true ≡ isSome r → (x : A) × (r ≡ Some x)
 some-since None e = absurd (true≢false e)
 some-since (Some x) e = (x, refl)
+
+pub some-value : {A : Type 0} (r : Option A) (d : A) → isSome r ≡ true → r ≡ Some (valueOr r d)
+some-value None d e = absurd (false≢true e)
+some-value (Some x) d e = refl
 
 -- what a test lets through
 pub let-through : {A : Type 0} (b : Bool) (r : Option A) (y : A) → cond b r None ≡ Some y → (b ≡ true) × (r ≡ Some y)

@@ -12,6 +12,7 @@ use Rattle.std.specs.declared.option.Option.the-variants.{Some, None}
 use Rattle.std.specs.declared.result.Result.{Result}
 use Rattle.std.specs.declared.result.Result.the-variants.{Ok, Err}
 use Rattle.std.specs.Options.{mapped}
+use Rattle.std.specs.Vectors.{chunked}
 use Rattle.rows.specs.Options.{_>>=_}
 use Rattle.rows.specs.Objects.{Object}
 use Rattle.rows.specs.ObjectRows.{sound, Object-rows}
@@ -20,18 +21,18 @@ use Rattle.rows.specs.declared.objects.ObjectView.{ObjectView}
 use Rattle.rows.specs.declared.objects.Objects.{Objects}
 use Rattle.rows.specs.declared.objects.NoObjects.{NoObjects}
 
--- the object whose w words of wants, o of offers, c of code and f of fits stand at the front of xs, and the row behind them
+-- the object whose w wants, o offers, c words of code and f fits stand at the front of xs, and the row behind them
 abbrev pub cut : ℕ → ℕ → ℕ → ℕ → ℕ → ℕ → List ℕ → Object × List ℕ
 cut name words w o c f xs = (
   record {
     name = name;
     words = words;
-    wants = wants-in (take w xs);
-    offers = offers-in (take o (drop w xs));
-    code = take c (drop o (drop w xs));
-    fits = fits-in (take f (drop c (drop o (drop w xs))));
+    wants = wants-in (chunked 3 w xs);
+    offers = offers-in (chunked 3 o (drop (3 * w) xs));
+    code = take c (drop (3 * o) (drop (3 * w) xs));
+    fits = fits-in (chunked 3 f (drop c (drop (3 * o) (drop (3 * w) xs))));
   },
-  drop f (drop c (drop o (drop w xs))),
+  drop (3 * f) (drop c (drop (3 * o) (drop (3 * w) xs))),
 )
 
 -- the object at the front of a row, and the row behind it; None where the row ends before it does
@@ -42,7 +43,7 @@ front (a ∷ b ∷ []) = None
 front (a ∷ b ∷ c ∷ []) = None
 front (a ∷ b ∷ c ∷ d ∷ []) = None
 front (a ∷ b ∷ c ∷ d ∷ e ∷ []) = None
-front (name ∷ words ∷ w ∷ o ∷ c ∷ f ∷ xs) = cond (leb (3 * w + 3 * o + c + 3 * f) (length xs)) (Some (cut name words (3 * w) (3 * o) c (3 * f) xs)) None
+front (name ∷ words ∷ w ∷ o ∷ c ∷ f ∷ xs) = cond (leb (3 * w + 3 * o + c + 3 * f) (length xs)) (Some (cut name words w o c f xs)) None
 
 -- what a reader of one object gives, in terms of `front`
 abbrev pub said : Option (ObjectView × RefT (List ℕ)) → Option (Object × List ℕ)

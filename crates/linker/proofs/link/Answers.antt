@@ -1,4 +1,4 @@
-use Rattle.linker.proofs.Posts.{post-no-space, post-no-objects, settled, image-fits, post-twice, post-no-entry, post-not-met, post-image}
+use Rattle.linker.proofs.Posts.{post-no-space, post-no-objects, post-twice, ready, image-fits, post-missing, post-image}
 use Rattle.linker.proofs.link.Needs as need
 
 pub returns-then-image-objects : need.returns-then-image-objects
@@ -8,22 +8,13 @@ pub returns-in-rest : need.returns-in-rest
 returns-in-rest c = post-no-objects (c .args .objects .now) (c .args .image .now) (c .if-image-objects .left) (c .in-rest .ensures tt)
 
 pub returns-then-twice : need.returns-then-twice
-returns-then-twice c = post-twice (c .args .objects .now) (c .args .image .now) (c .if-image-objects .left) (c .lay .last .table) (c .in-Ok .extent) (c .in-Ok .ensures tt) (c .if-twice .ensures tt)
+returns-then-twice c = post-twice (c .args .objects .now) (c .args .image .now) (c .if-image-objects .left) (c .lay .last .table) (c .in-Ok .extent) (c .in-Ok .ensures tt) (c .names-of-names .result) (c .names-of-names .ensures) (c .if-twice .ensures tt)
 
-pub entry-requires : need.entry-requires
-entry-requires c κs = settled (c .args .objects .now) (c .args .image .now) (c .if-image-objects .left) (c .lay .last .table) (c .in-Ok .extent) (c .in-Ok .ensures tt)
+pub join-requires : need.join-requires
+join-requires c κs = record { ready = ready (c .args .objects .now) (c .args .image .now) (c .if-image-objects .left) (c .lay .last .table) (c .in-Ok .extent) (c .in-Ok .ensures tt) (c .names-of-names .result) (c .names-of-names .ensures) (c .if-twice .ensures tt) (c .new .result .laid .now) (c .new .ensures); space = image-fits (c .args .objects .now) (c .args .image .now) (c .if-image-objects .left) (c .lay .last .table) (c .in-Ok .extent) (c .in-Ok .ensures tt) (c .names-of-names .result) (c .names-of-names .ensures) (c .if-twice .ensures tt) (c .new .result .laid .now) (c .new .ensures) }
 
-pub returns-in-rest-entry : need.returns-in-rest-entry
-returns-in-rest-entry c = post-no-entry (c .args .objects .now) (c .args .image .now) (c .if-image-objects .left) (c .lay .last .table) (c .in-Ok .extent) (c .in-Ok .ensures tt) (c .if-twice .ensures tt) (c .in-rest-entry .ensures tt)
-
-pub all-met-requires : need.all-met-requires
-all-met-requires c κs = settled (c .args .objects .now) (c .args .image .now) (c .if-image-objects .left) (c .lay .last .table) (c .in-Ok .extent) (c .in-Ok .ensures tt)
-
-pub returns-then-not-all-met : need.returns-then-not-all-met
-returns-then-not-all-met c = post-not-met (c .args .objects .now) (c .args .image .now) (c .if-image-objects .left) (c .lay .last .table) (c .in-Ok .extent) (c .in-Ok .ensures tt) (c .if-twice .ensures tt) (c .in-Some .start) (c .in-Some .ensures tt) (c .if-not-all-met .ensures tt)
-
-pub write-requires : need.write-requires
-write-requires c κs = record { all = settled (c .args .objects .now) (c .args .image .now) (c .if-image-objects .left) (c .lay .last .table) (c .in-Ok .extent) (c .in-Ok .ensures tt); space = image-fits (c .args .objects .now) (c .args .image .now) (c .if-image-objects .left) (c .lay .last .table) (c .in-Ok .extent) (c .in-Ok .ensures tt) }
+pub returns-then-not-join : need.returns-then-not-join
+returns-then-not-join c = post-missing (c .args .objects .now) (c .args .image .now) (c .if-image-objects .left) (c .lay .last .table) (c .in-Ok .extent) (c .in-Ok .ensures tt) (c .names-of-names .result) (c .names-of-names .ensures) (c .if-twice .ensures tt) (c .new .result .laid .now) (c .new .ensures) (c .join .last .image) (c .if-not-join .ensures tt)
 
 pub returns : need.returns
-returns c = post-image (c .args .objects .now) (c .args .image .now) (c .if-image-objects .left) (c .lay .last .table) (c .in-Ok .extent) (c .in-Ok .ensures tt) (c .if-twice .ensures tt) (c .in-Some .start) (c .write .last .image) (c .in-Some .ensures tt) (c .if-not-all-met .ensures tt) (c .write .ensures)
+returns c = post-image (c .args .objects .now) (c .args .image .now) (c .if-image-objects .left) (c .lay .last .table) (c .in-Ok .extent) (c .in-Ok .ensures tt) (c .names-of-names .result) (c .names-of-names .ensures) (c .if-twice .ensures tt) (c .new .result .laid .now) (c .new .ensures) (c .join .last .image) (c .if-not-join .ensures tt)

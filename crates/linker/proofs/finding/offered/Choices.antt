@@ -4,8 +4,8 @@ use Rattle.rows.specs.ObjectViews.{offers-in}
 use Rattle.linker.specs.Linking.{offered}
 use Rattle.linker.proofs.finding.offered.Given as given
 
-abbrev pub Inv-loop-offer : given.InvT-loop-offer
-Inv-loop-offer l = offered (l .proc) (l .args) (offers-in (l .left)) ≡ offered (l .proc) (l .args) (offers-in (l .offers))
+abbrev pub Inv-loop-words : given.InvT-loop-words
+Inv-loop-words l = offered (l .proc) (l .args) (offers-in (l .left)) ≡ offered (l .proc) (l .args) (offers-in (l .offers))
 
-abbrev pub μ-loop-offer : given.MeasureT-loop-offer
-μ-loop-offer l = length (l .left)
+abbrev pub μ-loop-words : given.MeasureT-loop-words
+μ-loop-words l = length (l .left)

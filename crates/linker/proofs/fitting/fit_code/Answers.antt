@@ -1,12 +1,10 @@
-use Rattle.linker.specs.Tables.{laid-of, laid-in}
-use Rattle.linker.proofs.Fits.{fit-inside, fitted-more}
+use mathlib.Core.Path.{sym, ap, _∙_}
+use Rattle.std.proofs.shelf.Lists.{nil-from-length}
+use Rattle.rows.specs.ObjectViews.{fits-in}
+use Rattle.linker.specs.Linking.{fit-all}
+use Rattle.linker.specs.Tables.{laid-of, laid-by}
+use Rattle.linker.specs.Fitting.{places-of}
 use Rattle.linker.proofs.fitting.fit_code.Needs as need
 
-pub index-code-at : need.index-code-at
-index-code-at c = fit-inside (laid-in (c .args .laid .now)) (laid-of (c .args .own .now)) _ (c .loop-fit .code) (c .loop-fit .left .now) (c .in-Some .fit) (c .in-Some .rest) (c .loop-fit .inv) (c .in-Some .ensures tt)
-
-pub index-code-at-in-Some : need.index-code-at-in-Some
-index-code-at-in-Some c = fit-inside (laid-in (c .args .laid .now)) (laid-of (c .args .own .now)) _ (c .loop-fit .code) (c .loop-fit .left .now) (c .in-Some .fit) (c .in-Some .rest) (c .loop-fit .inv) (c .in-Some .ensures tt)
-
-pub loop-fit-again : need.loop-fit-again
-loop-fit-again c = fitted-more (laid-in (c .args .laid .now)) (laid-of (c .args .own .now)) _ (c .loop-fit .code) (c .loop-fit .left .now) (c .in-Some .fit) (c .in-Some .rest) (c .loop-fit .inv) (c .in-Some .ensures tt) (c .fitted .result) (c .fitted .ensures)
+pub returns : need.returns
+returns c = sym (ap (λ left. fit-all (laid-of (c .args .own .now)) (places-of (laid-by (c .args .directory .now)) (laid-of (c .args .own .now) .object .wants)) (fits-in left) (c .loop-words .code)) (nil-from-length (c .loop-words .left .now) (c .in-rest .ensures tt .cases))) ∙ c .loop-words .inv

@@ -1,13 +1,10 @@
-use mathlib.Core.Path.{sym}
-use borrow.Author.Needs.{needs}
+use mathlib.Core.Path.{sym, ap, _∙_}
+use Rattle.std.specs.declared.option.Option.the-variants.{Some}
 use Rattle.rows.proofs.Wants.{want-past, want-at}
 use Rattle.rows.proofs.objects.ObjectView.want.Needs as need
 
-pub returns-then-at-self : need.returns-then-at-self
-returns-then-at-self c = sym (want-past (c .args .number) (c .args .self .now .wants .now) (search needs))
+pub returns-then-number-self : need.returns-then-number-self
+returns-then-number-self c = ap Some (c .of .ensures) ∙ sym (want-at (c .args .self .now .wants .now) (c .args .number) _ (c .if-number-self .taken))
 
-pub returns-in-Some : need.returns-in-Some
-returns-in-Some c = sym (want-at (c .args .number) (c .args .self .now .wants .now) _ (c .in-Some .ensures tt .reads))
-
-pub returns-in-None : need.returns-in-None
-returns-in-None c = sym (want-at (c .args .number) (c .args .self .now .wants .now) _ (c .in-None .ensures tt))
+pub returns-else-number-self : need.returns-else-number-self
+returns-else-number-self c = sym (want-past (c .args .self .now .wants .now) (c .args .number) (c .if-number-self .left))

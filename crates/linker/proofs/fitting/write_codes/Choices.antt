@@ -1,5 +1,0 @@
-use Rattle.linker.proofs.Written.{Written-so-far}
-use Rattle.linker.proofs.fitting.write_codes.Given as given
-
-abbrev pub Inv-loop-own : given.InvT-loop-own
-Inv-loop-own l = Written-so-far (l .laid) (l .entry .words) (l .words) (l .own-index) (l .at)
