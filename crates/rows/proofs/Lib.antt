@@ -18,3 +18,4 @@ pub mod UnitCuts
 pub mod ProcReading
 pub mod Outlines
 pub mod UnitReading
+pub mod SignShapes

@@ -11,7 +11,7 @@ use Rattle.std.proofs.shelf.Tests.{lt-ltb, le-ltb, le-leb}
 use Rattle.rows.specs.Units.{Want, SourceUnit}
 use Rattle.rows.specs.UnitRows.{rowWants, rowProcs, rowUnit, small-wants, all-below, Unit-row}
 use Rattle.rows.specs.ObjectViews.{wants-in}
-use Rattle.rows.specs.UnitViews.{Cut, CutSays}
+use Rattle.rows.specs.UnitParts.{Cut, CutSays}
 use Rattle.rows.specs.declared.units.UnitView.{UnitView}
 use Rattle.rows.proofs.Threefold.{wants-threefold, length-written, written-again, length-read}
 

@@ -19,11 +19,13 @@ use Rattle.rows.specs.Formed.{formed, formed-procs, depth}
 use Rattle.rows.specs.UnitRows.{rowWants, rowProcs, rowUnit, small-wants, small-procs, all-below, Unit-row}
 use Rattle.rows.specs.ObjectViews.{wants-in}
 use Rattle.rows.specs.Bodies.{outlined, Right}
-use Rattle.rows.specs.UnitViews.{View-of, Cut, Procedures, Few-args, Body-right, AritySays, Bodies-right, Shown}
+use Rattle.rows.specs.UnitViews.{View-of}
+use Rattle.rows.specs.UnitReading.{Shown}
+use Rattle.rows.specs.UnitParts.{Cut, Procedures, Few-args, Body-right, AritySays, Bodies-right}
 use Rattle.rows.specs.declared.units.UnitView.{UnitView}
 use Rattle.rows.proofs.Decided.{T-true, true-T, T-parts, T-both}
-use Rattle.rows.proofs.Threefold.{wants-threefold, read-again}
 use Rattle.rows.proofs.OneUnit.{one-wants, one-procs}
+use Rattle.rows.proofs.Arities.{view-wants}
 use Rattle.rows.proofs.Outlines.{outline-right, right-outline}
 
 T-leb : (a b : ℕ) → T (leb a b) → a ≤ b
@@ -92,15 +94,12 @@ module _ (row : List ℕ) (v : UnitView) (cut : Cut row v) where
       }
 
   -- what stands in every unit that the row says
-  cut-wants : (u : SourceUnit) → View-of v u → wants-in (now (v .wants)) ≡ u .wants
-  cut-wants u h = ap wants-in (h .wants) ∙ read-again wants-threefold (u .wants)
-
   cut-procs : (Ok : Proc → Type 0) (u : SourceUnit) → View-of v u → All Ok (u .procs) → Procedures Ok (v .count) (now (v .procs)) (u .procs)
   cut-procs Ok u h all = record { count = sym (h .count); says = sym (h .procs); each = all }
 
   -- where a part of the check fails, the row says no unit
   pub wants-wrong : small-wants (wants-in (now (v .wants))) ≡ false → (u : SourceUnit) → Unit-row row u → ⊥
-  wants-wrong e u h = both-ways (small-wants (wants-in (now (v .wants)))) e (ap small-wants (cut-wants u (cut-view u (h .row))) ∙ T-true (small-wants (u .wants)) (h .want-args))
+  wants-wrong e u h = both-ways (small-wants (wants-in (now (v .wants)))) e (ap small-wants (view-wants v u (cut-view u (h .row))) ∙ T-true (small-wants (u .wants)) (h .want-args))
 
   pub offers-wrong : all-below (v .count) (now (v .offers)) ≡ false → (u : SourceUnit) → Unit-row row u → ⊥
   offers-wrong e u h =
@@ -128,7 +127,7 @@ module _ (row : List ℕ) (v : UnitView) (cut : Cut row v) where
         same = one-list (says .0) (u .procs) few (cut-procs Few-args u w (few-of (u .procs) (h .proc-sizes)))
 
         to-outline : (p : Proc) → Body-right u p → Body-right outline p
-        to-outline p r = rw (w .words) (outline-right u (now (v .wants)) arities (cut-wants u w) (ap (map (λ q. q .args)) (sym same) ∙ says .2) (p .args) 256 (p .body) r)
+        to-outline p r = rw (w .words) (outline-right u (now (v .wants)) arities (view-wants v u w) (ap (map (λ q. q .args)) (sym same) ∙ says .2) (p .args) 256 (p .body) r)
 
     module _ (qs : List Proc) (right : Procedures (Body-right outline) m (now (v .procs)) qs) (small : small-wants (wants-in (now (v .wants))) ≡ true) (below : all-below (v .count) (now (v .offers)) ≡ true) where
       bodies : All (Body-right (unit-of v (says .0))) (says .0)

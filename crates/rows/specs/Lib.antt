@@ -4,11 +4,14 @@ pub mod Operations
 pub mod Units
 pub mod Frames
 pub mod Formed
-pub mod Objects
 pub mod UnitRows
+pub mod RowFronts
 pub mod Signs
+pub mod Bodies
+pub mod UnitViews
+pub mod UnitParts
+pub mod UnitReading
+pub mod Objects
 pub mod ObjectRows
 pub mod ObjectViews
 pub mod ObjectReading
-pub mod UnitViews
-pub mod Bodies
