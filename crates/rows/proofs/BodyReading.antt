@@ -11,8 +11,9 @@ use Rattle.std.proofs.shelf.Lists.{append-assoc, length-append, length-drop, dr
 use Rattle.rows.specs.Units.{Expr, Exprs, nil, cons, count, SourceUnit}
 use Rattle.rows.specs.Formed.{formed, formed-args, depth, depths}
 use Rattle.rows.specs.UnitRows.{rowExpr, rowExprs}
-use Rattle.rows.specs.Signs.{rowSign, part-count, sign-of, parts, Signed, SignSays}
-use Rattle.rows.specs.Bodies.{allowed, Front, FrontSays, Right, Right-parts}
+use Rattle.rows.specs.Signs.{rowSign, part-count, sign-of, parts, SignSays}
+use Rattle.rows.specs.RowFronts.{Begins, FrontSays}
+use Rattle.rows.specs.Bodies.{allowed, Right, Right-parts}
 use Rattle.rows.specs.declared.signs.Sign.{Sign}
 use Rattle.rows.proofs.Decided.{T-parts, T-both, true-T}
 use Rattle.rows.proofs.ExprParts.{row-parts, node, made}
@@ -21,29 +22,16 @@ use Rattle.rows.proofs.OneExpr.{sign-first, one-expr}
 use Rattle.rows.proofs.RightParts.{depth-parts, sign-right, parts-right, node-right}
 
 -- the sign that is read off a row in front of which an expression stands is the expression's, and its parts stand behind it
-pub sign-read : (row rest : List ℕ) (e : Expr) (s : Sign) (n : ℕ) → Signed row s n → row ≡ rowExpr e ++ rest → (s ≡ sign-of e) × (drop n row ≡ rowExprs (parts e) ++ rest)
+pub sign-read : (row rest : List ℕ) (e : Expr) (s : Sign) (n : ℕ) → Begins row n (rowSign s) → row ≡ rowExpr e ++ rest → (s ≡ sign-of e) × (drop n row ≡ rowExprs (parts e) ++ rest)
 sign-read row rest e s n h q = one-sign s (sign-of e) (drop n row) (rowExprs (parts e) ++ rest) (sym (h .begins) ∙ (q ∙ sign-first e rest))
 
--- a row begins with xs, which are n words
-pub record Begins (row : List ℕ) (n : ℕ) (xs : List ℕ) : Type 0 where
-  pub size : n ≡ length xs
-  pub begins : row ≡ xs ++ drop n row
-
-pub begins-inside : {row : List ℕ} {n : ℕ} (xs : List ℕ) → Begins row n xs → n ≤ length row
-begins-inside xs h = omega (arith, h .size, simp length-append at (ap length (h .begins)))
-
+-- what stands one behind the other
 pub begins-joined : {row : List ℕ} {n m : ℕ} (xs ys : List ℕ) → Begins row n xs → Begins (drop n row) m ys → Begins row (n + m) (xs ++ ys)
 begins-joined {row} {n} {m} xs ys h k = record {
+  inside = omega (arith, h .inside, simp length-drop at (k .inside));
   size = simp length-append (omega (arith, h .size, k .size));
   begins = h .begins ∙ (ap (λ zs. xs ++ zs) (k .begins ∙ ap (λ zs. ys ++ zs) (drop-drop m n row)) ∙ sym (append-assoc xs ys (drop (n + m) row)));
 }
-
--- what is read off the front of a row
-pub front-begins : {X : Type 0} {written : X → List ℕ} {Ok : X → Type 0} {row : List ℕ} {n : ℕ} {x : X} → Front written Ok row n x → Begins row n (written x)
-front-begins f = record { size = f .size; begins = f .begins }
-
-pub front-says : {X : Type 0} (written : X → List ℕ) (Ok : X → Type 0) {row : List ℕ} {n : ℕ} (x : X) → Ok x → Begins row n (written x) → FrontSays written Ok row (Some n)
-front-says written Ok x ok h = (begins-inside (written x) h, (x, record { right = ok; size = h .size; begins = h .begins }))
 
 pub row-node : (s : Sign) (es : Exprs) → count es ≡ part-count s → rowExpr (node s es) ≡ rowSign s ++ rowExprs es
 row-node s es c = row-parts (node s es) ∙ ap₂ (λ t fs. rowSign t ++ rowExprs fs) (made s es c .sign) (made s es c .parts)
@@ -55,7 +43,7 @@ module _ (u : SourceUnit) (k d : ℕ) (row : List ℕ) where
   pub no-sign : SignSays row None → FrontSays rowExpr (Right u k d) row None
   no-sign s e rest h q = s (sign-of e) (rowExprs (parts e) ++ rest) (q ∙ sign-first e rest)
 
-module _ (u : SourceUnit) (k d : ℕ) (row : List ℕ) (s : Sign) (n : ℕ) (says : Signed row s n) where
+module _ (u : SourceUnit) (k d : ℕ) (row : List ℕ) (s : Sign) (n : ℕ) (says : Begins row n (rowSign s)) where
   pub not-allowed : allowed u k s ≡ false → FrontSays rowExpr (Right u k d) row None
   not-allowed a e rest h q =
       let p = sign-read row rest e s n says q .0 in
@@ -70,13 +58,13 @@ module _ (u : SourceUnit) (k d : ℕ) (row : List ℕ) (s : Sign) (n : ℕ) (say
 
     pub with-parts : (m : ℕ) → allowed u k s ≡ true → FrontSays rowExprs (Right-parts u k d′ l) behind (Some m) → FrontSays rowExpr (Right u k d) row (Some (n + m))
     with-parts m a f =
-        let es = f .1 .0 in
-        let g = rw (is, asked) at (f .1 .1) in
-        rw less (front-says rowExpr (Right u k (suc d′)) (node s es) (node-right u k d′ s es (true-T (allowed u k s) a) (g .right)) (rw (row-node s es (g .right .count)) (begins-joined (rowSign s) (rowExprs es) (record { size = says .size; begins = says .begins }) (front-begins g))))
+        let es = f .0 in
+        let right = rw asked at (f .1) in
+        rw less (node s es, node-right u k d′ s es (true-T (allowed u k s) a) right, rw (row-node s es (right .count)) (begins-joined (rowSign s) (rowExprs es) says (rw is at (f .2))))
 
 module _ (u : SourceUnit) (k d : ℕ) (row : List ℕ) (n : ℕ) where
   pub none-left : n ≡ 0 → FrontSays rowExprs (Right-parts u k d n) row (Some 0)
-  none-left z = front-says rowExprs (Right-parts u k d n) nil (record { count = sym z; deep = omega arith; formed = tt }) (record { size = refl; begins = refl })
+  none-left z = (nil, record { count = sym z; deep = omega arith; formed = tt }, record { inside = omega arith; size = refl; begins = refl })
 
   pub no-first : (n ≡ 0 → ⊥) → FrontSays rowExpr (Right u k d) row None → FrontSays rowExprs (Right-parts u k d n) row None
   no-first z f nil rest h q = omega (arith, h .count)
@@ -90,14 +78,11 @@ module _ (u : SourceUnit) (k d : ℕ) (row : List ℕ) (n n′ : ℕ) (behind : 
   no-rest f nil rest h q = omega (arith, h .count)
   no-rest f (cons e es) rest h q =
       let t = T-parts (formed u k e) (formed-args u k es) (h .formed) in
-      let o = one-expr (first .1 .0) e (drop m row) (rowExprs es ++ rest) (sym (first .1 .1 .begins) ∙ (q ∙ append-assoc (rowExpr e) (rowExprs es) rest)) in
+      let o = one-expr (first .0) e (drop m row) (rowExprs es ++ rest) (sym (first .2 .begins) ∙ (q ∙ append-assoc (rowExpr e) (rowExprs es) rest)) in
       f es rest (record { count = omega (arith, h .count); deep = omega (arith, h .deep); formed = t .1 }) (is ∙ o .1)
 
   pub with-rest : (l : ℕ) → FrontSays rowExprs (Right-parts u k d n′) behind (Some l) → FrontSays rowExprs (Right-parts u k d n) row (Some (m + l))
-  with-rest l f =
-      let e = first .1 .0 in
-      let es = f .1 .0 in
-      let g = first .1 .1 in
-      let h = rw is at (f .1 .1) in
-      let r : Right-parts u k d n (cons e es) = record { count = omega (arith, h .right .count); deep = omega (arith, h .right .deep, g .right .deep); formed = T-both (formed u k e) (formed-args u k es) (g .right .formed) (h .right .formed) } in
-      front-says rowExprs (Right-parts u k d n) (cons e es) r (begins-joined (rowExpr e) (rowExprs es) (front-begins g) (front-begins h))
+  with-rest l f = (cons (first .0) (f .0), both (first .0) (f .0) (first .1) (f .1), begins-joined (rowExpr (first .0)) (rowExprs (f .0)) (first .2) (rw is at (f .2)))
+    where
+      both : (e : Expr) (es : Exprs) → Right u k d e → Right-parts u k d n′ es → Right-parts u k d n (cons e es)
+      both e es g h = record { count = omega (arith, h .count); deep = omega (arith, h .deep, g .deep); formed = T-both (formed u k e) (formed-args u k es) (g .formed) (h .formed) }

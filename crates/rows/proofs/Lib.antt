@@ -4,6 +4,7 @@ pub mod Fronts
 pub mod FrontRows
 pub mod ObjectLists
 pub mod Reader
+pub mod WantRows
 pub mod ExprParts
 pub mod SignFronts
 pub mod OneExpr
@@ -16,4 +17,5 @@ pub mod UnitCuts
 pub mod ProcReading
 pub mod Outlines
 pub mod UnitReading
+pub mod SignShapes
 pub mod Wants

@@ -7,7 +7,7 @@ use lib.ListN.{length}
 use Rattle.std.proofs.shelf.Lists.{append-assoc}
 use Rattle.rows.specs.Units.{Want, Proc, SourceUnit}
 use Rattle.rows.specs.UnitRows.{rowExpr, rowWants, rowProcs, rowUnit, Unit-row}
-use Rattle.rows.specs.UnitViews.{One-unit}
+use Rattle.rows.specs.UnitReading.{One-unit}
 use Rattle.rows.proofs.OneExpr.{one-expr}
 
 pub one-wants : (us vs : List Want) (xs ys : List ℕ) → length us ≡ length vs → rowWants us ++ xs ≡ rowWants vs ++ ys → (us ≡ vs) × (xs ≡ ys)

@@ -15,8 +15,9 @@ use Rattle.std.proofs.shelf.Tests.{true≢false, eqb-true, eqb-false}
 use Rattle.std.proofs.shelf.Elements.{all-push}
 use Rattle.rows.specs.Units.{Expr, Proc, SourceUnit}
 use Rattle.rows.specs.UnitRows.{rowExpr, rowProcs}
-use Rattle.rows.specs.Bodies.{Front, FrontSays, Right}
-use Rattle.rows.specs.UnitViews.{Procedures, Few-args, AritySays, Body-right, Bodies-right}
+use Rattle.rows.specs.RowFronts.{FrontSays}
+use Rattle.rows.specs.Bodies.{Right}
+use Rattle.rows.specs.UnitParts.{Procedures, Few-args, AritySays, Body-right, Bodies-right}
 use Rattle.rows.proofs.OneExpr.{one-expr}
 
 pub row-procs-append : (ps qs : List Proc) → rowProcs (ps ++ qs) ≡ rowProcs ps ++ rowProcs qs
@@ -103,9 +104,9 @@ first-word left h = first-rest left 0 h
 -- one more procedure is read: its number of arguments and then its body
 pub body-read : (Ok : Proc → Type 0) (Body : Expr → Type 0) {row left : List ℕ} {i : ℕ} {ps : List Proc} (size : ℕ) → Read Ok row left i ps → 1 ≤ length left → FrontSays rowExpr Body (from 1 left) (Some size) → ((e : Expr) → Body e → Ok (record { args = getD left 0 0; body = e })) → (p : Proc) × (p .args ≡ getD left 0 0) × Read Ok row (from size (from 1 left)) (i + 1) (ps ++ p ∷ [])
 body-read Ok Body {left} size h long f ok =
-    let e = f .1 .0 in
+    let e = f .0 in
     let p : Proc = record { args = getD left 0 0; body = e } in
-    (p, refl, read-more Ok p (from size (from 1 left)) h (first-word left long ∙ ap (λ s. getD left 0 0 ∷ s) (f .1 .1 .begins ∙ ap (λ s. rowExpr e ++ s) (sym (take-rest (from 1 left) size)))) (ok e (f .1 .1 .right)))
+    (p, refl, read-more Ok p (from size (from 1 left)) h (first-word left long ∙ ap (λ s. getD left 0 0 ∷ s) (f .2 .begins ∙ ap (λ s. rowExpr e ++ s) (sym (take-rest (from 1 left) size)))) (ok e (f .1)))
 
 -- where a procedure is missing, has too many arguments or no right body, the row does not say so many of them
 module _ (Ok Good : Proc → Type 0) {row left : List ℕ} {i n : ℕ} {ps qs : List Proc} (h : Read Ok row left i ps) (more : i < n) (k : Procedures Good n row qs) where

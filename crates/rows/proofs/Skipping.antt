@@ -8,12 +8,13 @@ use Rattle.std.specs.declared.option.Option.the-variants.{Some, None}
 use Rattle.std.proofs.shelf.Lists.{append-nil, append-assoc, length-append, length-drop, drop-at}
 use Rattle.rows.specs.Units.{Expr, Exprs, nil, cons, count}
 use Rattle.rows.specs.UnitRows.{rowExpr, rowExprs}
-use Rattle.rows.specs.Signs.{rowSign, part-count, sign-of, parts, Signed, SignSays}
-use Rattle.rows.specs.Bodies.{FrontSays, Any}
+use Rattle.rows.specs.Signs.{rowSign, part-count, sign-of, parts, SignSays}
+use Rattle.rows.specs.RowFronts.{Begins, FrontSays}
+use Rattle.rows.specs.Bodies.{Any}
 use Rattle.rows.specs.declared.signs.Sign.{Sign}
 use Rattle.rows.proofs.ExprParts.{sign-some, row-parts, count-parts, node}
 use Rattle.rows.proofs.OneExpr.{sign-first}
-use Rattle.rows.proofs.BodyReading.{sign-read, row-node, front-says}
+use Rattle.rows.proofs.BodyReading.{sign-read, row-node}
 
 -- expressions one behind the other
 abbrev pub join : Exprs → Exprs → Exprs
@@ -49,7 +50,7 @@ abbrev Several : ℕ → List ℕ → List ℕ → Type 0
 Several n row rest = (es : Exprs) × (count es ≡ n) × (row ≡ rowExprs es ++ rest)
 
 -- a sign stands in front of n expressions exactly if its parts and n less one stand behind it
-module _ (row : List ℕ) (s : Sign) (size : ℕ) (signed : Signed row s size) (rest : List ℕ) where
+module _ (row : List ℕ) (s : Sign) (size : ℕ) (signed : Begins row size (rowSign s)) (rest : List ℕ) where
   behind-sign : (n : ℕ) → Several (suc n) row rest → Several (n + part-count s) (drop size row) rest
   behind-sign n (nil, c, q) = absurd (omega arith)
   behind-sign n (cons e es, c, q) =
@@ -89,7 +90,7 @@ one-pending row = record {
     only rest (cons e (cons f es), c, q) = absurd (omega arith)
 
 module _ (row left : List ℕ) (n n′ : ℕ) (more : n ≡ suc n′) (pending : Pending row left n) where
-  pub parts-pending : (s : Sign) (size l : ℕ) (behind : List ℕ) → Signed left s size → l ≡ part-count s → behind ≡ drop size left → Pending row behind (n′ + l)
+  pub parts-pending : (s : Sign) (size l : ℕ) (behind : List ℕ) → Begins left size (rowSign s) → l ≡ part-count s → behind ≡ drop size left → Pending row behind (n′ + l)
   parts-pending s size l behind signed asked is = rw (asked, is) (record {
     into = λ rest h. behind-sign left s size signed rest n′ (rw more at (pending .into rest h));
     back = λ rest h. pending .back rest (rw more (before-sign left s size signed rest n′ h));
@@ -118,5 +119,12 @@ too-short row left n pending short e rest ok q =
 pub all-skipped : (row left : List ℕ) (n : ℕ) → n ≡ 0 → Pending row left n → FrontSays rowExpr Any row (Some (length row - length left))
 all-skipped row left n z pending =
     let o = pending .back left (nil, sym z, refl) in
-    let size : length row - length left ≡ length (rowExpr (o .0)) = omega (arith, simp length-append at (ap length (o .1))) in
-    front-says rowExpr Any (o .0) tt (record { size = size; begins = o .1 ∙ ap (λ s. rowExpr (o .0) ++ s) (sym (ap (drop (length row - length left)) (o .1) ∙ drop-at (rowExpr (o .0)) left _ (sym size))) })
+    let size : length row - length left ≡ length (rowExpr (o .0)) = omega (arith, simp length-append at (ap length (o .1))) in (
+      o .0,
+      tt,
+      record {
+        inside = omega arith;
+        size = size;
+        begins = o .1 ∙ ap (λ s. rowExpr (o .0) ++ s) (sym (ap (drop (length row - length left)) (o .1) ∙ drop-at (rowExpr (o .0)) left _ (sym size)));
+      },
+    )

@@ -2,13 +2,13 @@
 use mathlib.Core.Path.{_≡_}
 use mathlib.Core.Bool.{cond}
 use mathlib.Core.List.{List, [], _∷_, _++_}
-use Prim.Native.Nat.{ℕ, _-_, _≤_}
-use lib.ListN.{length, drop}
+use Prim.Native.Nat.{ℕ, _-_}
 use lib.Dec.{ltb}
 use Rattle.std.specs.declared.option.Option.{Option}
 use Rattle.std.specs.declared.option.Option.the-variants.{Some, None}
 use Rattle.rows.specs.Operations.{Op, Add, Sub, Mul, Div, Less, Same, number}
 use Rattle.rows.specs.Units.{Expr, num, arg, word, op, if, keep, then, out, next, call, Exprs, nil, cons, count}
+use Rattle.rows.specs.RowFronts.{Begins}
 use Rattle.rows.specs.declared.signs.Operation.{Operation as OperationSign}
 use Rattle.rows.specs.declared.signs.Operation.the-variants as sign
 use Rattle.rows.specs.declared.signs.Callee.{Callee}
@@ -90,13 +90,7 @@ parts (out e) = cons e nil
 parts next = nil
 parts (call c es) = es
 
--- the first n words of a row are those of the sign s
-pub record Signed (row : List ℕ) (s : Sign) (n : ℕ) : Type 0 where
-  pub inside : n ≤ length row
-  pub size : n ≡ length (rowSign s)
-  pub begins : row ≡ rowSign s ++ drop n row
-
 -- what a reader of one sign gives: the sign in front of a row and how many words it takes, or that no sign stands there
 abbrev pub SignSays : List ℕ → Option (Sign × ℕ) → Type 0
 SignSays row None = (s : Sign) (rest : List ℕ) → row ≡ rowSign s ++ rest → ⊥
-SignSays row (Some r) = Signed row (r .0) (r .1)
+SignSays row (Some r) = Begins row (r .1) (rowSign (r .0))

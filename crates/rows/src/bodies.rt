@@ -1,10 +1,9 @@
 // Bodies of procedures in a row: skipped by their signs, and checked against what they may name.
 ghost use mathlib.Core.Path.{_≡_};
-ghost use Prim.Native.Nat.{ℕ, _≤_};
-ghost use lib.ListN.{length};
 ghost use Rattle.rows.specs.Units.{Expr, arity};
 ghost use Rattle.rows.specs.UnitRows.{rowExpr, rowExprs};
-ghost use Rattle.rows.specs.Bodies.{outline, allowed, FrontSays, Any, Right, Right-parts};
+ghost use Rattle.rows.specs.RowFronts.{FrontSays};
+ghost use Rattle.rows.specs.Bodies.{outline, allowed, Any, Right, Right-parts};
 use crate::signs::Callee;
 use crate::signs::Procedure;
 use crate::signs::Sign;

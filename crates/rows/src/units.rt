@@ -6,9 +6,10 @@ ghost use lib.ListN.{length};
 ghost use Rattle.std.specs.Orderings.{Decides};
 ghost use Rattle.rows.specs.Units.{Want, Proc};
 ghost use Rattle.rows.specs.UnitRows.{all-below, small-wants};
-ghost use Rattle.rows.specs.ObjectViews.{wants-in};
+ghost use Rattle.rows.specs.WantRows.{wants-said, FirstWantSays};
 ghost use Rattle.rows.specs.Bodies.{outlined};
-ghost use Rattle.rows.specs.UnitViews.{One-unit, CutSays, AritySays, Bodies-right, ReadSays};
+ghost use Rattle.rows.specs.UnitReading.{One-unit, ReadSays};
+ghost use Rattle.rows.specs.UnitParts.{CutSays, AritySays, Bodies-right};
 use crate::bodies::Scope;
 use crate::bodies::skip;
 use crate::objects::Want;
@@ -51,12 +52,27 @@ pub enum Refusal {
     Short,
 }
 
+// The first want of a row of them, and the row behind it.
+fn first_want(row: &[u32]) -> Option<(Want, &[u32])>
+    ensures { λ r. ⌜ FirstWantSays (now (row .entry)) r ⌝ }
+{
+    let [unit, proc, args, rest @ ..] = row else {
+        return None;
+    };
+    let want = Want {
+        unit: *unit,
+        proc: *proc,
+        args: *args,
+    };
+    Some((want, rest))
+}
+
 // Whether each want takes few enough arguments.
 fn wants_small(wants: &[u32]) -> bool
-    ensures { λ r. ⌜ r ≡ small-wants (wants-in (now (wants .entry))) ⌝ }
+    ensures { λ r. ⌜ r ≡ small-wants (wants-said (now (wants .entry))) ⌝ }
 {
     let mut left = wants;
-    while let Some((want, rest)) = Want::first(left) {
+    while let Some((want, rest)) = first_want(left) {
         if want.args > MOST_ARGS {
             return false;
         }
@@ -130,6 +146,13 @@ impl<'a> UnitView<'a> {
         })
     }
 
+    // How many wants the unit has.
+    pub fn want_count(&self) -> usize
+        ensures { λ r. ⌜ r ≡ length (wants-said (now (now (self .entry) .wants))) ⌝ }
+    {
+        self.wants.len() / 3
+    }
+
     // Whether each body is well formed and not too deep, where the procedures take so many arguments.
     fn bodies_right(self, arities: &'a [u32]) -> bool
         ensures { λ r. ⌜ Decides r (Bodies-right (outlined (self .entry .words) (now (self .entry .wants)) (now (arities .entry))) (length (now (arities .entry))) (now (self .entry .procs))) ⌝ }
@@ -184,3 +207,56 @@ impl<'a> UnitView<'a> {
 pub fn one_unit()
     ensures { λ _. ⌜ One-unit ⌝ }
 {}
+
+#[cfg(test)]
+mod tests {
+    use super::*;
+    use std::test::*;
+
+    // A unit that wants a procedure of one argument and calls it twice.
+    const ASKS: [u32; 21] = [
+        1,
+        0,
+        1,
+        1,
+        1,
+        2,
+        0,
+        1,
+        0,
+        6,
+        7,
+        9,
+        0,
+        1,
+        8,
+        7,
+        9,
+        0,
+        1,
+        8,
+        0,
+    ];
+
+    #[test]
+    fn a_row_of_a_unit() -> Result<(), Fail> {
+        let mut arities = [7; 256];
+        let view = UnitView::read(&ASKS, &mut arities)?;
+        check_eq(view.name, 1)?;
+        check_eq(view.want_count(), 1)?;
+        check_eq(view.procs.len(), 12)?;
+        check_eq(arities[0], 0)?;
+        check_eq(arities[1], 7)
+    }
+
+    // The want takes two arguments, and its calls have one.
+    #[test]
+    fn a_row_of_no_unit() -> Result<(), Fail> {
+        let mut row = ASKS;
+        row[7] = 2;
+        match UnitView::read(&row, &mut [0; 256]) {
+            Ok(_) => Err(Fail::new("a unit")),
+            Err(refusal) => check_eq(refusal, Refusal::NoUnit),
+        }
+    }
+}

@@ -2,7 +2,7 @@ use mathlib.Core.List.{[], _∷_, _++_}
 use native.Mathlib.Omega.{arith}
 use borrow.Author.Needs.{needs}
 use Rattle.rows.specs.Bodies.{Any}
-use Rattle.rows.specs.UnitViews.{Few-args}
+use Rattle.rows.specs.UnitParts.{Few-args}
 use Rattle.rows.proofs.ProcReading.{body-read, nothing-left, wrong-args, wrong-body, arities-more, all-arities}
 use Rattle.rows.proofs.units.read_arities.Needs as need
 
@@ -16,7 +16,7 @@ pub returns-in-rest-skip : need.returns-in-rest-skip
 returns-in-rest-skip c ps k = wrong-body Few-args Few-args (c .loop-arity .inv .1) (c .loop-arity-test .taken) k Any (search needs) (c .in-rest-skip .ensures tt) (λ p is few. tt)
 
 pub offset-body-size : need.offset-body-size
-offset-body-size c = let h = c .in-Some .ensures tt .0 in let k = c .loop-arity .inv .1 .shorter in search needs
+offset-body-size c = let h = c .in-Some .ensures tt .2 .inside in let k = c .loop-arity .inv .1 .shorter in search needs
 
 pub loop-arity-again : need.loop-arity-again
 loop-arity-again c =

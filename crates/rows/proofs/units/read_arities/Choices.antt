@@ -2,7 +2,7 @@ use mathlib.Core.Path.{_≡_}
 use mathlib.Core.List.{List, map}
 use lib.ListN.{take}
 use Rattle.rows.specs.Units.{Proc}
-use Rattle.rows.specs.UnitViews.{Few-args}
+use Rattle.rows.specs.UnitParts.{Few-args}
 use Rattle.rows.proofs.ProcReading.{Read}
 use Rattle.rows.proofs.units.read_arities.Given as given
 

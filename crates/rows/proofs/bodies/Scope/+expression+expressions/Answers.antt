@@ -18,7 +18,7 @@ pub expression-returns-in-Break-parts : need.expression-returns-in-Break-parts
 expression-returns-in-Break-parts t c = rw (c .from-residual-in-Break-parts .ensures) (no-parts _ _ _ _ _ _ (c .in-Continue-sign .ensures tt) _ _ _ (omega arith) (c .parts .ensures) (take-rest (c .args .row .now) (c .in-Continue-sign .size)) (c .in-Break-parts .ensures tt))
 
 pub expression-add-result : need.expression-add-result
-expression-add-result t c = let h = simp (take-rest, length-drop) at (c .in-Continue-parts .ensures tt .0) in let k = c .in-Continue-sign .ensures tt .inside in search needs
+expression-add-result t c = let h = simp (take-rest, length-drop) at (c .in-Continue-parts .ensures tt .2 .inside) in let k = c .in-Continue-sign .ensures tt .inside in search needs
 
 pub expression-returns : need.expression-returns
 expression-returns t c = with-parts _ _ _ _ _ _ (c .in-Continue-sign .ensures tt) _ _ _ (omega arith) (c .parts .ensures) (take-rest (c .args .row .now) (c .in-Continue-sign .size)) _ (sym (c .if-not-allows .ensures tt)) (c .in-Continue-parts .ensures tt)

@@ -5,7 +5,7 @@ use borrow.Author.Needs.{needs}
 use lib.ListN.{getD}
 use Rattle.rows.specs.Units.{SourceUnit}
 use Rattle.rows.specs.Bodies.{outlined, Right}
-use Rattle.rows.specs.UnitViews.{Body-right}
+use Rattle.rows.specs.UnitParts.{Body-right}
 use Rattle.rows.proofs.ProcReading.{body-read, nothing-left, wrong-body, right-at, none-right, all-bodies}
 use Rattle.rows.proofs.units.UnitView.bodies_right.Needs as need
 

@@ -1,7 +1,7 @@
 use mathlib.Core.List.{List}
 use Rattle.rows.specs.Units.{Proc}
 use Rattle.rows.specs.Bodies.{outlined}
-use Rattle.rows.specs.UnitViews.{Body-right}
+use Rattle.rows.specs.UnitParts.{Body-right}
 use Rattle.rows.proofs.ProcReading.{Read}
 use Rattle.rows.proofs.units.UnitView.bodies_right.Given as given
 
