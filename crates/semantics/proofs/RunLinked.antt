@@ -2,8 +2,7 @@
 use mathlib.Core.Path.{_≡_, refl, sym, ap, _∙_}
 use mathlib.Core.Logic.{_↔_}
 use mathlib.Core.List.{List}
-use Prim.Native.Nat.{ℕ, suc, _+_, _-_, _^_, _<_, _≤_}
-use native.Mathlib.Nat.{sub-zero}
+use Prim.Native.Nat.{ℕ, suc, _+_, _^_, _<_, _≤_}
 use native.Mathlib.Omega.{arith}
 use lib.ListN.{length, take, length-append}
 use Rattle.std.specs.declared.option.Option.the-variants.{Some}
@@ -112,13 +111,13 @@ post : (x : Inputs) (i o : List ℕ) (r : Result Ran NotLinked) → RunSays x i 
 post x i o r says space promise = record { says = says; space = space; promise = promise; enough-steps = enough-steps; demands = demands; ends = programs-end; budgets = budgets; company = company }
 
 pub post-run : (x : Inputs) (i o : List ℕ) (size words : ℕ) (r : Ran) → x .room < 2 ^ 32 → LinkedPost (x .objects) (x .image) i (linked.Image size words) →
-    RanPost (take (size - 0) i) words (x .room) (x .tape) (x .calls) (x .steps) (x .out) o (x .work) r → RunLinkedPost x i o (Ok r)
+    RanPost (take size i) words (x .room) (x .tape) (x .calls) (x .steps) (x .out) o (x .work) r → RunLinkedPost x i o (Ok r)
 post-run x i o size words r small linked ran = post x i o (Ok r) says
     (λ few. let z : _≡_ {A = ℕ} 0 1 = cc (linked .space .0 few) in absurd (omega arith), λ e. let z : _≡_ {A = ℕ} 0 1 = cc in absurd (omega arith))
     (λ us os rows objects fit. let b = programs-end us (x .room) (x .calls) (x .tape) fit in (b .0, b .1, run-as-units us os objects fit x i o r small rows says (b .0) (b .1)))
   where
     says : Ran-image x i o r
-    says = record { size = size; words = words; links = linked .says; ran = rw (sub-zero size) at ran }
+    says = record { size = size; words = words; links = linked .says; ran = ran }
 
 pub post-refusal : (x : Inputs) (i : List ℕ) (e : NotLinked) → LinkedPost (x .objects) (x .image) i (refusal e) → RunLinkedPost x i (x .out) (Err e)
 post-refusal x i e linked = post x i (x .out) (Err e) says

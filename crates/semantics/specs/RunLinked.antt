@@ -45,6 +45,11 @@ refusal Twice = linked.Twice
 refusal Missing = linked.Missing
 refusal NoSpace = linked.NoSpace
 
+-- and where it links: so many words of image and of units
+abbrev pub answer : Result (ℕ × ℕ) NotLinked → Linked
+answer (Ok (size, words)) = linked.Image size words
+answer (Err e) = refusal e
+
 -- the objects were linked to an image, which stands first in i, and the machine ran it so; i and o: the words for the image and out afterwards
 pub record Ran-image (x : Inputs) (i o : List ℕ) (r : Ran) : Type 0 where
   pub size : ℕ

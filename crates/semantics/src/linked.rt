@@ -1,6 +1,9 @@
 // Objects linked and run in one call, with the promise from end to end.
-ghost use lib.ListN.{length};
-ghost use Rattle.semantics.specs.RunLinked.{RunLinkedPost};
+ghost use Prim.Native.Nat.{_≤_};
+ghost use lib.ListN.{length, take};
+ghost use Rattle.linker.specs.Says.{LinkedPost};
+ghost use Rattle.machine.specs.Says.{RanPost};
+ghost use Rattle.semantics.specs.RunLinked.{answer, RunLinkedPost};
 use linker::Linked;
 use linker::link;
 use machine::Ran;
@@ -14,6 +17,38 @@ pub enum NotLinked {
     Twice,
     Missing,
     NoSpace,
+}
+
+// Links the objects of a row: how many words the image has, which stands first in `image`, and how many the units have; or why there is no image.
+fn link_objects(objects: &[u32], image: &mut [u32]) -> Result<(usize, u32), NotLinked>
+    ensures { λ r. ⌜ LinkedPost (now (objects .entry)) (now (image .entry)) (now (image .exit)) (answer r) ⌝ }
+{
+    match link(objects, image) {
+        Linked::Image(size, words) => Ok((size, words as u32)),
+        Linked::NoObjects => Err(NotLinked::NoObjects),
+        Linked::Twice => Err(NotLinked::Twice),
+        Linked::Missing => Err(NotLinked::Missing),
+        Linked::NoSpace => Err(NotLinked::NoSpace),
+    }
+}
+
+// Runs the image that is the first `size` words of `image`, as the machine does.
+fn run_image(
+    image: &[u32],
+    size: usize,
+    words: u32,
+    room: u32,
+    tape: &[u32],
+    calls: u32,
+    steps: u32,
+    out: &mut [u32],
+    work: &mut [u32],
+) -> Ran
+    requires { ⌜ size ≤ length (now image) ⌝ }
+    ensures { λ r. ⌜ RanPost (take size (now (image .entry))) words room (now (tape .entry)) calls steps (now (out .entry)) (now (out .exit)) (length (now (work .entry))) r ⌝ }
+{
+    let code = &image[0..size];
+    go(code, words, room, tape, calls, steps, out, work)
 }
 
 // Links the objects of a row and runs their image, which stands first in `image`, with this room, tape and number of calls, for so many steps.
@@ -31,14 +66,7 @@ pub fn run_linked(
 ) -> Result<Ran, NotLinked>
     ensures { λ r. ⌜ RunLinkedPost (record { objects = now (objects .entry); room = room; tape = now (tape .entry); calls = calls; steps = steps; image = now (image .entry); out = now (out .entry); work = length (now (work .entry)) }) (now (image .exit)) (now (out .exit)) r ⌝ }
 {
-    match link(objects, image) {
-        Linked::Image(size, words) => {
-            let code = &image[0..size];
-            Ok(go(code, words as u32, room, tape, calls, steps, out, work))
-        }
-        Linked::NoObjects => Err(NotLinked::NoObjects),
-        Linked::Twice => Err(NotLinked::Twice),
-        Linked::Missing => Err(NotLinked::Missing),
-        Linked::NoSpace => Err(NotLinked::NoSpace),
-    }
+    let (size, words) = link_objects(objects, image)?;
+    let ran = run_image(image, size, words, room, tape, calls, steps, out, work);
+    Ok(ran)
 }
