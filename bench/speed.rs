@@ -10,8 +10,9 @@ use inputs::{Chance, Sizes};
 use std::hint::black_box;
 use std::time::Instant;
 
-const ROUNDS: usize = 15;
-const SECONDS_A_ROUND: f64 = 0.02;
+/// Many short rounds, so that some of them are not disturbed on a machine that does other work.
+const ROUNDS: usize = 101;
+const SECONDS_A_ROUND: f64 = 0.004;
 const DAMAGED_ROWS: usize = 100_000;
 
 /// What stands in buffers before a call, so that a word too many is seen.
@@ -24,6 +25,10 @@ mod proved {
     unsafe extern "C" {
         fn speed_link(objects: *const u32, objects_len: usize, image: *mut u32, image_len: usize) -> usize;
         fn speed_link_answer(objects: *const u32, objects_len: usize, image: *mut u32, image_len: usize) -> u32;
+        #[cfg(compiles)]
+        fn speed_compile(unit: *const u32, unit_len: usize, object: *mut u32, object_len: usize, work: *mut u32, work_len: usize) -> usize;
+        #[cfg(compiles)]
+        fn speed_compile_answer(unit: *const u32, unit_len: usize, object: *mut u32, object_len: usize, work: *mut u32, work_len: usize) -> u32;
     }
 
     pub fn link(objects: &[u32], image: &mut [u32]) -> usize {
@@ -34,6 +39,18 @@ mod proved {
     pub fn link_answer(objects: &[u32], image: &mut [u32]) -> u32 {
         // SAFETY: as for `link`.
         unsafe { speed_link_answer(objects.as_ptr(), objects.len(), image.as_mut_ptr(), image.len()) }
+    }
+
+    #[cfg(compiles)]
+    pub fn compile(unit: &[u32], object: &mut [u32], work: &mut [u32]) -> usize {
+        // SAFETY: as for `link`.
+        unsafe { speed_compile(unit.as_ptr(), unit.len(), object.as_mut_ptr(), object.len(), work.as_mut_ptr(), work.len()) }
+    }
+
+    #[cfg(compiles)]
+    pub fn compile_answer(unit: &[u32], object: &mut [u32], work: &mut [u32]) -> u32 {
+        // SAFETY: as for `link`.
+        unsafe { speed_compile_answer(unit.as_ptr(), unit.len(), object.as_mut_ptr(), object.len(), work.as_mut_ptr(), work.len()) }
     }
 }
 
@@ -76,6 +93,57 @@ fn compare_damaged_links() {
     println!("link, {DAMAGED_ROWS} damaged rows, same answers and words: {image} images, {no_space} no space, {no_objects} no objects, {twice} twice, {missing} missing");
 }
 
+/// How many words an object needs, and how many the work on it.
+fn compile_space(unit: &[u32]) -> (usize, usize) {
+    (256 + 32 * unit.len(), 4096 + 16 * unit.len())
+}
+
+/// The number of a plain compiler's answer in `speed_compile_answer`.
+#[cfg(compiles)]
+fn compile_number(answer: compiler::Compiled) -> u32 {
+    match answer {
+        compiler::Compiled::Object(_) => 0,
+        compiler::Compiled::Short => 1,
+        compiler::Compiled::NoUnit => 2,
+    }
+}
+
+/// Compiles a row both ways into so many words, with so many words to work with; the answers and all words of the object are the same.
+/// The answer's number, and the object's length.
+#[cfg(compiles)]
+fn compare_objects(row: &[u32], space: usize, work: usize) -> (u32, usize) {
+    let mut objects = [vec![FILL; space], vec![FILL; space], vec![FILL; space]];
+    let mut work = vec![FILL; work];
+    let size = proved::compile(row, &mut objects[0], &mut work);
+    let number = proved::compile_answer(row, &mut objects[1], &mut work);
+    let answer = compiler::compile(row, &mut objects[2], work.len());
+    assert_eq!(number, compile_number(answer), "another answer on {} words", row.len());
+    assert_eq!(size, if let compiler::Compiled::Object(size) = answer { size } else { 0 }, "another size on {} words", row.len());
+    assert!(objects[0] == objects[2] && objects[1] == objects[2], "another object on {} words", row.len());
+    (number, size)
+}
+
+/// Compares the compilers on damaged rows.
+#[cfg(compiles)]
+fn compare_damaged_objects() {
+    let mut chance = Chance::new(4);
+    let row = inputs::unit(&mut chance, 3, 4, 40);
+    let mut answers = [0; 3];
+    for _ in 0..DAMAGED_ROWS {
+        let damaged = inputs::damaged(&mut chance, &row);
+        let (mut space, mut work) = compile_space(&damaged);
+        match chance.below(100) {
+            0 => space -= 1,
+            1 => work -= 1,
+            _ => {}
+        }
+        let (number, _) = compare_objects(&damaged, space, work);
+        answers[number as usize] += 1;
+    }
+    let [object, short, no_unit] = answers;
+    println!("compile, {DAMAGED_ROWS} damaged rows, same answers and words: {object} objects, {short} short, {no_unit} no unit");
+}
+
 /// Seconds for each of `times` calls.
 fn seconds(times: usize, call: &mut impl FnMut()) -> f64 {
     let start = Instant::now();
@@ -93,7 +161,8 @@ fn best_and_median(mut times: Vec<f64>, words: usize) -> [f64; 2] {
 
 /// Times two calls in turn, and prints the time for each of so many words.
 fn race(words: usize, mut ours: impl FnMut(), mut theirs: impl FnMut()) {
-    let times = (SECONDS_A_ROUND / seconds(3, &mut theirs)).ceil() as usize;
+    let once = (0..5).map(|_| seconds(1, &mut theirs)).fold(SECONDS_A_ROUND, f64::min);
+    let times = (SECONDS_A_ROUND / once).ceil() as usize;
     seconds(times, &mut ours);
     let (our_times, their_times) = (0..ROUNDS).map(|_| (seconds(times, &mut ours), seconds(times, &mut theirs))).unzip();
     let (ours, theirs) = (best_and_median(our_times, words), best_and_median(their_times, words));
@@ -113,7 +182,44 @@ fn race_links(what: &str, names: &[u32]) {
     assert_eq!(number, 0, "the objects link");
     println!("link, 256 objects with 64 wants each, {what}: {} words of rows, same image of {size} words", row.len());
     let (mut ours, mut theirs) = (vec![FILL; space], vec![FILL; space]);
-    race(row.len(), || assert!(proved::link(black_box(&row), black_box(&mut ours)) > 0), || assert!(linker::link(black_box(&row), black_box(&mut theirs)).is_ok()));
+    race(
+        row.len(),
+        || assert!(proved::link(black_box(&row), black_box(&mut ours)) > 0),
+        || assert!(linker::link(black_box(&row), black_box(&mut theirs)).is_ok()),
+    );
+}
+
+/// Times both compilers on a unit of many procedures.
+#[cfg(compiles)]
+fn race_compilers() {
+    let row = inputs::unit(&mut Chance::new(5), 64, 256, 90);
+    let (space, work) = compile_space(&row);
+    let (number, size) = compare_objects(&row, space, work);
+    assert_eq!(number, 0, "the unit compiles");
+    println!("compile, a unit of 256 procedures: {} words of rows, same object of {size} words", row.len());
+    let (mut ours, mut theirs, mut work) = (vec![FILL; space], vec![FILL; space], vec![FILL; work]);
+    let lent = work.len();
+    race(
+        row.len(),
+        || assert!(proved::compile(black_box(&row), black_box(&mut ours), black_box(&mut work)) > 0),
+        || assert!(matches!(compiler::compile(black_box(&row), black_box(&mut theirs), lent), compiler::Compiled::Object(_))),
+    );
+}
+
+/// Times the plain compiler alone, where the library has none to compare it with.
+#[cfg(not(compiles))]
+fn race_compilers() {
+    let row = inputs::unit(&mut Chance::new(5), 64, 256, 90);
+    let (space, work) = compile_space(&row);
+    let mut object = vec![FILL; space];
+    let compiler::Compiled::Object(size) = compiler::compile(&row, &mut object, work) else {
+        panic!("the unit compiles");
+    };
+    let mut call = || assert!(matches!(compiler::compile(black_box(&row), black_box(&mut object), work), compiler::Compiled::Object(_)));
+    let times = (0..ROUNDS).map(|_| seconds(10, &mut call)).collect();
+    let [best, median] = best_and_median(times, row.len());
+    println!("compile, a unit of 256 procedures: {} words of rows, an object of {size} words; no proved compiler yet", row.len());
+    println!("  plain                   {best:7.2} ns{median:7.2} ns  a word of the row");
 }
 
 fn main() {
@@ -122,4 +228,7 @@ fn main() {
     race_links("names at random", &inputs::random_names(&mut Chance::new(2), 256));
     race_links("names 1 to 256", &Vec::from_iter(1..=256));
     race_links("names that differ in their upper half only", &Vec::from_iter((1..=256).map(|n| n << 16)));
+    #[cfg(compiles)]
+    compare_damaged_objects();
+    race_compilers();
 }

@@ -1,6 +1,5 @@
 // The linker for callers in C or Rust, to time it beside a plain one. A slice is a pointer and then a length there, and an answer is a number.
 ghost use Rattle.speed.specs.Says.{LinkLength, LinkAnswer};
-
 use linker::Linked;
 use linker::link;
 
