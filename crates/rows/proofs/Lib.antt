@@ -6,4 +6,16 @@ pub mod FrontRows
 pub mod ObjectLists
 pub mod Inside
 pub mod Reader
+pub mod ExprParts
+pub mod SignFronts
+pub mod OneExpr
+pub mod OneUnit
+pub mod Arities
+pub mod RightParts
+pub mod BodyReading
+pub mod Skipping
+pub mod UnitCuts
+pub mod ProcReading
+pub mod Outlines
+pub mod UnitReading
 pub mod Wants

@@ -6,6 +6,9 @@ pub mod Frames
 pub mod Formed
 pub mod Objects
 pub mod UnitRows
+pub mod Signs
 pub mod ObjectRows
 pub mod ObjectViews
 pub mod ObjectReading
+pub mod UnitViews
+pub mod Bodies

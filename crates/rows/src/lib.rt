@@ -1,3 +1,6 @@
 // Units and objects as rows of words, and the operations on words that units have.
+pub mod bodies;
 pub mod objects;
 pub mod operations;
+pub mod signs;
+pub mod units;

@@ -13,10 +13,10 @@ pub mod AnyOrder
 pub mod Company
 pub mod Options
 pub mod UnitRuns
-pub mod Steps
+pub mod Endings
 pub mod Laid
 pub mod Finding
-pub mod Linked
+pub mod OffersRun
 pub mod Start
 pub mod Main
 pub mod Images
@@ -24,3 +24,5 @@ pub mod Linkable
 pub mod Untouched
 pub mod Alone
 pub mod Promised
+pub mod Sizes
+pub mod RunLinked

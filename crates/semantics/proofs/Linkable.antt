@@ -9,10 +9,11 @@ use Rattle.std.specs.declared.option.Option.{Option}
 use Rattle.std.specs.declared.option.Option.the-variants.{Some, None}
 use Rattle.std.specs.Options.{isSome, mapped}
 use Rattle.std.specs.Finite.{nth}
-use Rattle.std.proofs.shelf.Tests.{false≢true, not-false, and-parts}
+use Rattle.std.proofs.shelf.Tests.{not-false, and-parts}
 use Rattle.rows.specs.Options.{_>>=_}
 use Rattle.rows.specs.Units.{Want, SourceUnit}
 use Rattle.rows.specs.Objects.{Object}
+use Rattle.rows.proofs.Decided.{T-true, true-T}
 use Rattle.linker.specs.Linking.{lay, offered, place, places, codes, entry, link, has-name, twice}
 use Rattle.semantics.specs.Runs.{position}
 use Rattle.semantics.specs.Whole.{among, names, distinct, offers-proc, unit-named, meets, wants-met, all-met, starts}
@@ -70,14 +71,6 @@ pub twice-names : {us : List SourceUnit} {os : List Object} → Objects-of us os
 twice-names none = refl
 twice-names (more {u} {o} {us} {os} h hs) =
     ap₂ _||_ (has-name-among hs (o .name) ∙ ap (λ n. among n (names us)) (h .name)) (twice-names hs) ∙ not-and (among (u .name) (names us)) (distinct (names us))
-
-T-true : (b : Bool) → T b → b ≡ true
-T-true true t = refl
-T-true false t = absurd t
-
-true-T : (b : Bool) → b ≡ true → T b
-true-T true e = tt
-true-T false e = absurd (false≢true e)
 
 pub links : Links
 links us os hs fit =

@@ -18,7 +18,7 @@ use Rattle.semantics.specs.Theorems.{Objects-of, none, more, Linked-runs}
 use Rattle.semantics.proofs.Lookups.{both-found}
 use Rattle.semantics.proofs.NotBad.{ends}
 use Rattle.semantics.proofs.Laid.{widths, Image-of, image-of}
-use Rattle.semantics.proofs.Linked.{all-run}
+use Rattle.semantics.proofs.OffersRun.{all-run}
 use Rattle.semantics.proofs.Start.{outermost, called, first-call, ends-so}
 
 -- the image's first call, of the place e, has the outcome that the program has

@@ -1,6 +1,6 @@
 -- What is promised of objects and of what they are linked to, put together.
 use Rattle.semantics.specs.Theorems.{Demands}
-use Rattle.semantics.proofs.Steps.{ends-once}
+use Rattle.semantics.proofs.Endings.{ends-once}
 use Rattle.semantics.proofs.Linkable.{says-the-same, links, links-only}
 use Rattle.semantics.proofs.Main.{linked-runs}
 use Rattle.semantics.proofs.Images.{image-company}

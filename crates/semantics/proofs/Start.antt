@@ -19,7 +19,7 @@ use Rattle.semantics.specs.Runs.{Result, value, no-room, no-calls, bad, zeros}
 use Rattle.semantics.specs.Whole.{Behaviour, done, behaviour, machine-behaviour}
 use Rattle.semantics.specs.Relation.{flat, sizes, CallSite, Entered, Outcome}
 use Rattle.semantics.specs.Theorems.{Objects-of, none, more}
-use Rattle.semantics.proofs.Steps.{steps-add}
+use Rattle.machine.proofs.Steps.{steps-add}
 use Rattle.semantics.proofs.Laid.{widths, total-widths}
 
 -- all units' words are 0 at first

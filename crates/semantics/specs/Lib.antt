@@ -8,3 +8,4 @@ pub mod Ends
 pub mod Budgets
 pub mod Company
 pub mod Theorems
+pub mod RunLinked

@@ -3,7 +3,7 @@ use crate::options::Flag;
 use crate::options::FlagDisplay;
 use decimal::input::InputError;
 use decimal::input::InputErrorDisplay;
-use linker::Linked;
+use semantics::linked::NotLinked;
 use std::alloc::AllocError;
 use std::fmt;
 use std::io;
@@ -19,7 +19,7 @@ pub enum Failure {
     BadTape(InputError),
     CodeAndMore,
     NoImage,
-    NotLinked(Linked),
+    NotLinked(NotLinked),
     Small,
     NoOutput(io::Error),
     NoMemory,
@@ -54,10 +54,10 @@ pub impl fmt::Display for Failure as FailureDisplay {
                 f,
                 "--code takes one file, and neither objects nor --image"
             ),
-            Failure::NotLinked(Linked::NoObjects) => write!(f, "no objects"),
-            Failure::NotLinked(Linked::Twice) => write!(f, "twice"),
-            Failure::NotLinked(Linked::Missing) => write!(f, "missing"),
-            Failure::NotLinked(_) => write!(f, "no space"),
+            Failure::NotLinked(NotLinked::NoObjects) => write!(f, "no objects"),
+            Failure::NotLinked(NotLinked::Twice) => write!(f, "twice"),
+            Failure::NotLinked(NotLinked::Missing) => write!(f, "missing"),
+            Failure::NotLinked(NotLinked::NoSpace) => write!(f, "no space"),
             Failure::NoImage => write!(f, "the file holds no image"),
             Failure::Small => write!(f, "small"),
             Failure::NoOutput(error) => write!(f, "{error}"),

@@ -1,7 +1,11 @@
 // Links objects and runs them, or runs an image, on a tape that is given on standard input.
 use decimal::input::read_words;
 use linker::Linked;
+use linker::link;
 use machine::Ran;
+use machine::go;
+use semantics::linked::NotLinked;
+use semantics::linked::run_linked;
 use std::fs;
 use std::io;
 use std::io::Write;
@@ -25,6 +29,8 @@ const INPUT_WORDS: usize = 393_216;
 const TAPE_WORDS: usize = 65_536;
 
 const OUT_WORDS: usize = 65_536;
+// What is left for the image and for memory.
+const FREE_WORDS: usize = BUFFER_WORDS - INPUT_WORDS - TAPE_WORDS - OUT_WORDS;
 
 const USAGE: &str = "usage: unitrun [--room N] [--calls N] [--steps N] OBJECTS...
        unitrun --image OBJECTS...
@@ -64,59 +70,59 @@ fn run(rt: &LibcRuntime) -> Result<(), Failure> {
 
 // Links the objects of files and runs them.
 fn run_objects(rt: &LibcRuntime, names: Vec<String>, budgets: Budgets) -> Result<(), Failure> {
-    let linked = link_files(rt, names)?;
+    let objects = read_objects(rt, names)?;
     let tape = read_tape(rt)?;
-    let free = BUFFER_WORDS - INPUT_WORDS - TAPE_WORDS - OUT_WORDS;
-    let free = free.saturating_sub(linked.image.len());
-    let Ok(words) = u32::try_from(linked.words) else {
-        return Err(Failure::Small);
-    };
-    run_image(
-        rt,
-        linked.image.as_slice(),
-        words,
+    let size = objects.len() + 4;
+    let mut image = vec![in rt.alloc(); 0u32; size]?;
+    let mut work = vec![in rt.alloc(); 0u32; FREE_WORDS.saturating_sub(size)]?;
+    let mut out = vec![in rt.alloc(); 0u32; OUT_WORDS]?;
+    let ran = run_linked(
+        objects.as_slice(),
+        budgets.room,
         tape.as_slice(),
-        budgets,
-        free,
-    )
+        budgets.calls,
+        budgets.steps,
+        image.as_mut_slice(),
+        out.as_mut_slice(),
+        work.as_mut_slice(),
+    );
+    match ran {
+        Ok(ran) => print_run(rt, out.as_slice(), ran),
+        Err(refusal) => Err(Failure::NotLinked(refusal)),
+    }
 }
 
-// An image, and the number of words of all units.
-#[derive(Drop)]
-struct LinkedImage {
-    image: Vec<u32>,
-    words: usize,
-}
-
-fn link_files(rt: &LibcRuntime, names: Vec<String>) -> Result<LinkedImage, Failure> {
+// All the files' words, one file after the other.
+fn read_objects(rt: &LibcRuntime, names: Vec<String>) -> Result<Vec<u32>, Failure> {
     let mut objects = Vec::with_capacity(rt.alloc(), INPUT_WORDS)?;
     for name in names {
         read_file(rt, name, &mut objects)?;
     }
+    Ok(objects)
+}
+
+// Links the objects of files, and prints the image and the number of words of all units.
+fn print_image(rt: &LibcRuntime, names: Vec<String>) -> Result<(), Failure> {
+    let objects = read_objects(rt, names)?;
     let mut image = vec![in rt.alloc(); 0u32; objects.len() + 4]?;
-    match linker::link(objects.as_slice(), image.as_mut_slice()) {
-        Linked::Image(n, words) => {
-            image.truncate(n);
-            Ok(LinkedImage { image, words })
-        }
-        refusal => Err(Failure::NotLinked(refusal)),
+    match link(objects.as_slice(), image.as_mut_slice()) {
+        Linked::Image(n, words) => print_words(rt, image.as_slice(), n, words),
+        Linked::NoObjects => Err(Failure::NotLinked(NotLinked::NoObjects)),
+        Linked::Twice => Err(Failure::NotLinked(NotLinked::Twice)),
+        Linked::Missing => Err(Failure::NotLinked(NotLinked::Missing)),
+        Linked::NoSpace => Err(Failure::NotLinked(NotLinked::NoSpace)),
     }
 }
 
-// Prints an image, and the number of words of all units.
-fn print_image(rt: &LibcRuntime, names: Vec<String>) -> Result<(), Failure> {
-    let linked = link_files(rt, names)?;
+// The first n words on one line, and the number of words of all units on another.
+fn print_words(rt: &LibcRuntime, image: &[u32], n: usize, words: usize) -> Result<(), Failure> {
     let mut to = io::BufWriter::new(rt.stdout());
-    let mut first = true;
-    for x in linked.image.iter() {
-        if first {
-            write!(to, "{x}")?;
-        } else {
-            write!(to, " {x}")?;
+    for (i, x) in image.iter().take(n).enumerate() {
+        if i > 0 {
+            write!(to, " ")?;
         }
-        first = false;
+        write!(to, "{x}")?;
     }
-    let words = linked.words;
     writeln!(to)?;
     writeln!(to, "{words}")?;
     to.flush()?;
@@ -131,8 +137,20 @@ fn run_code(rt: &LibcRuntime, name: String, budgets: Budgets) -> Result<(), Fail
         return Err(Failure::NoImage);
     };
     let tape = read_tape(rt)?;
-    let free = BUFFER_WORDS - INPUT_WORDS - TAPE_WORDS - OUT_WORDS;
-    run_image(rt, code.as_slice(), words, tape.as_slice(), budgets, free)
+    let size = (words as usize + budgets.room as usize).min(FREE_WORDS);
+    let mut work = vec![in rt.alloc(); 0u32; size]?;
+    let mut out = vec![in rt.alloc(); 0u32; OUT_WORDS]?;
+    let ran = go(
+        code.as_slice(),
+        words,
+        budgets.room,
+        tape.as_slice(),
+        budgets.calls,
+        budgets.steps,
+        out.as_mut_slice(),
+        work.as_mut_slice(),
+    );
+    print_run(rt, out.as_slice(), ran)
 }
 
 fn read_file(rt: &LibcRuntime, name: String, words: &mut Vec<u32>) -> Result<(), Failure> {
@@ -154,41 +172,17 @@ fn read_tape(rt: &LibcRuntime) -> Result<Vec<u32>, Failure> {
     }
 }
 
-// Runs an image in at most `free` words of memory.
-fn run_image(
-    rt: &LibcRuntime,
-    code: &[u32],
-    words: u32,
-    tape: &[u32],
-    budgets: Budgets,
-    free: usize,
-) -> Result<(), Failure> {
-    let size = (words as usize + budgets.room as usize).min(free);
-    let mut work = vec![in rt.alloc(); 0u32; size]?;
-    let mut out = vec![in rt.alloc(); 0u32; OUT_WORDS]?;
-    let ran = machine::go(
-        code,
-        words,
-        budgets.room,
-        tape,
-        budgets.calls,
-        budgets.steps,
-        out.as_mut_slice(),
-        work.as_mut_slice(),
-    );
-    match ran {
-        Ran::Done(n) => print_run(rt, out.as_slice(), n, "done"),
-        Ran::NoCalls(n) => print_run(rt, out.as_slice(), n, "no calls"),
-        Ran::NoRoom(n) => print_run(rt, out.as_slice(), n, "no room"),
-        Ran::Wild(n) => print_run(rt, out.as_slice(), n, "wild"),
-        Ran::More(n) => print_run(rt, out.as_slice(), n, "more"),
-        Ran::OutFull => print_run(rt, out.as_slice(), 0, "out full"),
-        Ran::Small => Err(Failure::Small),
-    }
-}
-
-// The first n words of `out`, one to a line, and how the run ended.
-fn print_run(rt: &LibcRuntime, out: &[u32], n: usize, ending: &str) -> Result<(), Failure> {
+// Prints the words that were put out, one to a line, and how the run ended.
+fn print_run(rt: &LibcRuntime, out: &[u32], ran: Ran) -> Result<(), Failure> {
+    let (n, ending) = match ran {
+        Ran::Done(n) => (n, "done"),
+        Ran::NoCalls(n) => (n, "no calls"),
+        Ran::NoRoom(n) => (n, "no room"),
+        Ran::Wild(n) => (n, "wild"),
+        Ran::More(n) => (n, "more"),
+        Ran::OutFull => (0, "out full"),
+        Ran::Small => return Err(Failure::Small),
+    };
     let mut to = io::BufWriter::new(rt.stdout());
     for x in out.iter().take(n) {
         writeln!(to, "{x}")?;
