@@ -1,5 +1,6 @@
 // Objects read from rows of words, one after the other, each as a view of the row.
 ghost use mathlib.Core.Path.{_≡_};
+ghost use lib.ListN.{length};
 ghost use Rattle.std.specs.Finite.{nth};
 ghost use Rattle.std.specs.Options.{mapped};
 ghost use Rattle.rows.specs.ObjectRows.{sound, offers-inside, fits-inside};
@@ -157,6 +158,13 @@ impl<'a> ObjectView<'a> {
         Some((view, rest))
     }
 
+    // How many wants there are.
+    pub fn want_count(&self) -> usize
+        ensures { λ r. ⌜ r ≡ length (object-of (now (self .entry)) .wants) ⌝ }
+    {
+        self.wants.len()
+    }
+
     // The want with that number, if it is there.
     pub fn want(&self, number: usize) -> Option<Want>
         ensures { λ r. ⌜ mapped want-of r ≡ nth (object-of (now (self .entry)) .wants) number ⌝ }
@@ -175,7 +183,7 @@ impl<'a> ObjectView<'a> {
         let code = self.code.len();
         self.words <= 4096
             && offers_inside(self.offers, code)
-            && fits_inside(self.fits, code, self.wants.len())
+            && fits_inside(self.fits, code, self.want_count())
     }
 }
 
