@@ -16,7 +16,7 @@ use Rattle.std.proofs.shelf.Maps.{nth-getD, nth-past}
 use Rattle.std.proofs.shelf.Tests.{ltb-true, eqb-true}
 use Rattle.rows.specs.Units.{Want as UnitWant, Proc, SourceUnit, arity}
 use Rattle.rows.specs.Formed.{takes}
-use Rattle.rows.specs.ObjectViews.{wants-in}
+use Rattle.rows.specs.WantRows.{wants-said}
 use Rattle.rows.specs.Signs.{target-of}
 use Rattle.rows.specs.Bodies.{bodiless, outline}
 use Rattle.rows.specs.UnitViews.{View-of}
@@ -26,8 +26,8 @@ use Rattle.rows.specs.declared.signs.Target.the-variants.{Want, Own}
 use Rattle.rows.specs.declared.bodies.Scope.{Scope}
 use Rattle.rows.specs.declared.units.UnitView.{UnitView}
 use Rattle.rows.proofs.Decided.{T-true}
-use Rattle.rows.proofs.Threefold.{wants-threefold, read-again}
-use Rattle.rows.proofs.Inside.{length-wants-in}
+use Rattle.rows.proofs.WantRows.{read-again}
+use Rattle.rows.proofs.WantRows.{length-wants-said}
 
 -- a word read out of a list by a place that may be behind its end
 pub read-at : (xs : List ℕ) (i : ℕ) (r : Option (RefT ℕ)) → Item xs i i r → mapped now r ≡ nth xs i
@@ -35,7 +35,7 @@ read-at xs i None h = sym (nth-past xs i (h .3))
 read-at xs i (Some x) h = ap Some (h .3 .1 0) ∙ sym (nth-getD xs i 0 (h .3 .0))
 
 -- the third word of a want is its number of arguments
-want-arity : (xs : List ℕ) (n : ℕ) → n < length (wants-in xs) → mapped (λ w. w .args) (nth (wants-in xs) n) ≡ Some (getD xs (3 * n + 2) 0)
+want-arity : (xs : List ℕ) (n : ℕ) → n < length (wants-said xs) → mapped (λ w. w .args) (nth (wants-said xs) n) ≡ Some (getD xs (3 * n + 2) 0)
 want-arity [] n h = absurd (omega arith)
 want-arity (a ∷ []) n h = absurd (omega arith)
 want-arity (a ∷ b ∷ []) n h = absurd (omega arith)
@@ -58,15 +58,15 @@ own-by false p q x e = (refl, cc)
 
 pub want-takes : (s : Scope) (c : Callee) (n : ℕ) → Want n ≡ target-of (length (now (s .wants)) / 3) c → Some (getD (now (s .wants)) (3 * n + 2) 0) ≡ arity (outline s) (c .0)
 want-takes s c n e =
-    let k = rw (← length-wants-in (now (s .wants))) at e in
-    let h = want-by (ltb (c .0) (length (wants-in (now (s .wants))))) n (c .0) _ k in
+    let k = rw (← length-wants-said (now (s .wants))) at e in
+    let h = want-by (ltb (c .0) (length (wants-said (now (s .wants))))) n (c .0) _ k in
     rw (h .0, h .1) (sym (want-arity (now (s .wants)) (c .0) (ltb-true _ _ (h .0))))
 
 pub own-takes : (s : Scope) (c : Callee) (p : Procedure) → Own p ≡ target-of (length (now (s .wants)) / 3) c → nth (now (s .arities)) (p .0) ≡ arity (outline s) (c .0)
 own-takes s c p e =
-    let k = rw (← length-wants-in (now (s .wants))) at e in
-    let h = own-by (ltb (c .0) (length (wants-in (now (s .wants))))) p _ (c .0) k in
-    rw (h .0, h .1) (sym (own-arity (now (s .arities)) (c .0 - length (wants-in (now (s .wants))))))
+    let k = rw (← length-wants-said (now (s .wants))) at e in
+    let h = own-by (ltb (c .0) (length (wants-said (now (s .wants))))) p _ (c .0) k in
+    rw (h .0, h .1) (sym (own-arity (now (s .arities)) (c .0 - length (wants-said (now (s .wants))))))
 
 -- a callee that takes m arguments is there
 takes-there : {X : Type 0} (f : X → ℕ) (o : Option X) (m : ℕ) → T (takes (mapped f o) m) → (x : X) × (o ≡ Some x) × (f x ≡ m)
@@ -85,5 +85,5 @@ module _ (u : SourceUnit) (c : Callee) (m : ℕ) (t : T (takes (arity u (c .0)) 
       rw (h .1) (takes-there (λ q. q .args) (nth (u .procs) (c .0 - length (u .wants))) m (rw (h .0) at t))
 
 -- a view's wants are those of the unit that it shows
-pub view-wants : (v : UnitView) (u : SourceUnit) → View-of v u → wants-in (now (v .wants)) ≡ u .wants
-view-wants v u h = ap wants-in (h .wants) ∙ read-again wants-threefold (u .wants)
+pub view-wants : (v : UnitView) (u : SourceUnit) → View-of v u → wants-said (now (v .wants)) ≡ u .wants
+view-wants v u h = ap wants-said (h .wants) ∙ read-again (u .wants)

@@ -1,11 +1,10 @@
 pub mod Decided
-pub mod Threes
 pub mod Threefold
 pub mod Fronts
 pub mod FrontRows
 pub mod ObjectLists
-pub mod Inside
 pub mod Reader
+pub mod WantRows
 pub mod ExprParts
 pub mod SignFronts
 pub mod OneExpr
@@ -19,3 +18,4 @@ pub mod ProcReading
 pub mod Outlines
 pub mod UnitReading
 pub mod SignShapes
+pub mod Wants

@@ -11,7 +11,7 @@ use Rattle.std.specs.Finite.{nth}
 use Rattle.rows.specs.Units.{Expr, Exprs, nil, cons, Want, Proc, SourceUnit, arity}
 use Rattle.rows.specs.Formed.{takes, formed, formed-args}
 use Rattle.rows.specs.Signs.{sign-of, parts}
-use Rattle.rows.specs.ObjectViews.{wants-in}
+use Rattle.rows.specs.WantRows.{wants-said}
 use Rattle.rows.specs.Bodies.{bodiless, outlined, allowed, Right}
 use Rattle.rows.specs.declared.signs.Sign.{Sign}
 use Rattle.rows.specs.declared.signs.Sign.the-variants.{Number, Argument, Word, Operation, If, Keep, Then, Out, Next, Call}
@@ -45,7 +45,7 @@ own-alike [] i = refl
 own-alike (p ∷ ps) zero = refl
 own-alike (p ∷ ps) (suc i) = own-alike ps i
 
-module _ (u : SourceUnit) (wants arities : List ℕ) (is-wants : wants-in wants ≡ u .wants) (is-arities : map (λ p. p .args) (u .procs) ≡ arities) where
+module _ (u : SourceUnit) (wants arities : List ℕ) (is-wants : wants-said wants ≡ u .wants) (is-arities : map (λ p. p .args) (u .procs) ≡ arities) where
   arity-alike : (c : ℕ) → arity u c ≡ arity (outlined (u .words) wants arities) c
   arity-alike c = rw (is-wants, ← is-arities) (ap (λ a. cond (ltb c (length (u .wants))) (mapped (λ w. w .args) (nth (u .wants) c)) a) (own-alike (u .procs) (c - length (u .wants))))
 

@@ -10,10 +10,10 @@ use Rattle.std.proofs.shelf.Lists.{append-assoc, length-append, length-drop, le
 use Rattle.std.proofs.shelf.Tests.{lt-ltb, le-ltb, le-leb}
 use Rattle.rows.specs.Units.{Want, SourceUnit}
 use Rattle.rows.specs.UnitRows.{rowWants, rowProcs, rowUnit, small-wants, all-below, Unit-row}
-use Rattle.rows.specs.ObjectViews.{wants-in}
+use Rattle.rows.specs.WantRows.{wants-said}
 use Rattle.rows.specs.UnitParts.{Cut, CutSays}
 use Rattle.rows.specs.declared.units.UnitView.{UnitView}
-use Rattle.rows.proofs.Threefold.{wants-threefold, length-written, written-again, length-read}
+use Rattle.rows.proofs.WantRows.{length-written, written-again, length-read}
 
 -- one want more that is within its limit
 pub small-more : (w : Want) (ws : List Want) → w .args ≤ 8 → small-wants (w ∷ ws) ≡ small-wants ws
@@ -35,7 +35,7 @@ pub too-few : (row : List ℕ) → length (drop 5 row) < 3 * getD row 2 0 + getD
 too-few row short u h = go (subst (λ s. length (drop 5 s) < 3 * getD s 2 0 + getD s 4 0) (sym (h .row)) short)
   where
     go : length (rowWants (u .wants) ++ (rowProcs (u .procs) ++ u .offers)) < 3 * length (u .wants) + length (u .offers) → ⊥
-    go l = omega (arith, length-written wants-threefold (u .wants), simp length-append at l)
+    go l = omega (arith, length-written (u .wants), simp length-append at l)
 
 -- the parts behind the five words of the head
 pub record Parts (w o : ℕ) (xs wants rest procs offers : List ℕ) : Type 0 where
@@ -59,7 +59,7 @@ cut-is v (a ∷ b ∷ []) behind rest is long n w c p short words wants procs = 
 cut-is v (a ∷ b ∷ d ∷ []) behind rest is long n w c p short words wants procs = absurd (omega arith)
 cut-is v (a ∷ b ∷ d ∷ e ∷ []) behind rest is long n w c p short words wants procs = absurd (omega arith)
 cut-is v (a ∷ b ∷ d ∷ e ∷ f ∷ xs) behind rest is long n w c p short words wants procs = record {
-  whole = written-again wants-threefold d (now (v .wants)) long-wants;
+  whole = written-again d (now (v .wants)) long-wants;
   parts = let joined = parts-joined (3 * d) f xs (now (v .wants)) rest (now (v .procs)) (now (v .offers)) cut in cc (counted, counted-offers, joined, n, w, c);
   short = short;
   words = omega arith;
@@ -73,8 +73,8 @@ cut-is v (a ∷ b ∷ d ∷ e ∷ f ∷ xs) behind rest is long n w c p short wo
     long-wants : length (now (v .wants)) ≡ 3 * d
     long-wants = rw (cut .wants-is) (length-take-le (3 * d) xs (omega (arith, cut .enough)))
 
-    counted : length (wants-in (now (v .wants))) ≡ d
-    counted = length-read wants-threefold d (now (v .wants)) long-wants
+    counted : length (wants-said (now (v .wants))) ≡ d
+    counted = length-read d (now (v .wants)) long-wants
 
     counted-offers : length (now (v .offers)) ≡ f
     counted-offers = rw (cut .offers-is) (simp length-drop (omega (arith, cut .enough, simp length-drop at (ap length (cut .wants-cut)))))

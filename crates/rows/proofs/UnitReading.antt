@@ -17,7 +17,7 @@ use Rattle.std.proofs.shelf.Elements.{all-weaker}
 use Rattle.rows.specs.Units.{Want, Proc, SourceUnit}
 use Rattle.rows.specs.Formed.{formed, formed-procs, depth}
 use Rattle.rows.specs.UnitRows.{rowWants, rowProcs, rowUnit, small-wants, small-procs, all-below, Unit-row}
-use Rattle.rows.specs.ObjectViews.{wants-in}
+use Rattle.rows.specs.WantRows.{wants-said}
 use Rattle.rows.specs.Bodies.{outlined, Right}
 use Rattle.rows.specs.UnitViews.{View-of}
 use Rattle.rows.specs.UnitReading.{Shown}
@@ -63,7 +63,7 @@ one-list ps qs h k = one-procs ps qs [] [] (h .count ∙ sym (k .count)) (append
 
 -- the unit that a cut row says, whose procedures are ps
 abbrev unit-of : UnitView → List Proc → SourceUnit
-unit-of v ps = record { name = v .name; words = v .words; wants = wants-in (now (v .wants)); procs = ps; offers = now (v .offers) }
+unit-of v ps = record { name = v .name; words = v .words; wants = wants-said (now (v .wants)); procs = ps; offers = now (v .offers) }
 
 -- two rows that end alike in as many words
 same-ends : (xs ys zs ws : List ℕ) → length zs ≡ length ws → xs ++ zs ≡ ys ++ ws → (xs ≡ ys) × (zs ≡ ws)
@@ -78,11 +78,11 @@ module _ (row : List ℕ) (v : UnitView) (cut : Cut row v) where
       let q = e ∙ cut .parts in
       let name : u .name ≡ v .name = cc in
       let words : u .words ≡ v .words = cc in
-      let wants : length (u .wants) ≡ length (wants-in (now (v .wants))) = cc in
+      let wants : length (u .wants) ≡ length (wants-said (now (v .wants))) = cc in
       let count : length (u .procs) ≡ v .count = cc in
       let offers : length (u .offers) ≡ length (now (v .offers)) = cc in
       let rest : rowWants (u .wants) ++ (rowProcs (u .procs) ++ u .offers) ≡ now (v .wants) ++ (now (v .procs) ++ now (v .offers)) = cc in
-      let w = one-wants (u .wants) (wants-in (now (v .wants))) (rowProcs (u .procs) ++ u .offers) (now (v .procs) ++ now (v .offers)) wants (rest ∙ ap (λ s. s ++ (now (v .procs) ++ now (v .offers))) (sym (cut .whole))) in
+      let w = one-wants (u .wants) (wants-said (now (v .wants))) (rowProcs (u .procs) ++ u .offers) (now (v .procs) ++ now (v .offers)) wants (rest ∙ ap (λ s. s ++ (now (v .procs) ++ now (v .offers))) (sym (cut .whole))) in
       let p = same-ends (rowProcs (u .procs)) (now (v .procs)) (u .offers) (now (v .offers)) offers (w .1) in
       record {
         name = sym name;
@@ -98,8 +98,8 @@ module _ (row : List ℕ) (v : UnitView) (cut : Cut row v) where
   cut-procs Ok u h all = record { count = sym (h .count); says = sym (h .procs); each = all }
 
   -- where a part of the check fails, the row says no unit
-  pub wants-wrong : small-wants (wants-in (now (v .wants))) ≡ false → (u : SourceUnit) → Unit-row row u → ⊥
-  wants-wrong e u h = both-ways (small-wants (wants-in (now (v .wants)))) e (ap small-wants (view-wants v u (cut-view u (h .row))) ∙ T-true (small-wants (u .wants)) (h .want-args))
+  pub wants-wrong : small-wants (wants-said (now (v .wants))) ≡ false → (u : SourceUnit) → Unit-row row u → ⊥
+  wants-wrong e u h = both-ways (small-wants (wants-said (now (v .wants)))) e (ap small-wants (view-wants v u (cut-view u (h .row))) ∙ T-true (small-wants (u .wants)) (h .want-args))
 
   pub offers-wrong : all-below (v .count) (now (v .offers)) ≡ false → (u : SourceUnit) → Unit-row row u → ⊥
   offers-wrong e u h =
@@ -129,7 +129,7 @@ module _ (row : List ℕ) (v : UnitView) (cut : Cut row v) where
         to-outline : (p : Proc) → Body-right u p → Body-right outline p
         to-outline p r = rw (w .words) (outline-right u (now (v .wants)) arities (view-wants v u w) (ap (map (λ q. q .args)) (sym same) ∙ says .2) (p .args) 256 (p .body) r)
 
-    module _ (qs : List Proc) (right : Procedures (Body-right outline) m (now (v .procs)) qs) (small : small-wants (wants-in (now (v .wants))) ≡ true) (below : all-below (v .count) (now (v .offers)) ≡ true) where
+    module _ (qs : List Proc) (right : Procedures (Body-right outline) m (now (v .procs)) qs) (small : small-wants (wants-said (now (v .wants))) ≡ true) (below : all-below (v .count) (now (v .offers)) ≡ true) where
       bodies : All (Body-right (unit-of v (says .0))) (says .0)
       bodies = all-weaker (Body-right outline) (Body-right (unit-of v (says .0))) (λ p r. right-outline (unit-of v (says .0)) (now (v .wants)) arities refl (says .2) (p .args) 256 (p .body) r) (says .0) (subst (All (Body-right outline)) (one-list qs (says .0) (rw each at right) few) (right .each))
 

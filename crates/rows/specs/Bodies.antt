@@ -7,7 +7,7 @@ use lib.Dec.{ltb, T}
 use denote.Ref.{now}
 use Rattle.rows.specs.Units.{Expr, next, Exprs, count, Proc, SourceUnit, arity}
 use Rattle.rows.specs.Formed.{takes, formed, formed-args, depth, depths}
-use Rattle.rows.specs.ObjectViews.{wants-in}
+use Rattle.rows.specs.WantRows.{wants-said}
 use Rattle.rows.specs.declared.signs.Sign.{Sign}
 use Rattle.rows.specs.declared.signs.Sign.the-variants.{Number, Argument, Word, Operation, If, Keep, Then, Out, Next, Call}
 use Rattle.rows.specs.declared.bodies.Scope.{Scope}
@@ -18,7 +18,7 @@ bodiless n = record { args = n; body = next }
 
 -- a unit with so many words, these wants (three words each) and procedures of so many arguments, as far as that says what a body may name
 abbrev pub outlined : ℕ → List ℕ → List ℕ → SourceUnit
-outlined words wants arities = record { name = 0; words = words; wants = wants-in wants; procs = map bodiless arities; offers = [] }
+outlined words wants arities = record { name = 0; words = words; wants = wants-said wants; procs = map bodiless arities; offers = [] }
 
 abbrev pub outline : Scope → SourceUnit
 outline s = outlined (s .words) (now (s .wants)) (now (s .arities))

@@ -12,26 +12,27 @@ use Rattle.std.specs.declared.option.Option.the-variants.{Some, None}
 use Rattle.std.specs.declared.result.Result.{Result}
 use Rattle.std.specs.declared.result.Result.the-variants.{Ok, Err}
 use Rattle.std.specs.Options.{mapped}
+use Rattle.std.specs.Vectors.{chunked}
 use Rattle.rows.specs.Options.{_>>=_}
 use Rattle.rows.specs.Objects.{Object}
 use Rattle.rows.specs.ObjectRows.{sound, Object-rows}
 use Rattle.rows.specs.ObjectViews.{wants-in, offers-in, fits-in, object-of}
 use Rattle.rows.specs.declared.objects.ObjectView.{ObjectView}
 use Rattle.rows.specs.declared.objects.Objects.{Objects}
-use Rattle.rows.specs.declared.objects.NoObject.{NoObject}
+use Rattle.rows.specs.declared.objects.NoObjects.{NoObjects}
 
--- the object whose w words of wants, o of offers, c of code and f of fits stand at the front of xs, and the row behind them
+-- the object whose w wants, o offers, c words of code and f fits stand at the front of xs, and the row behind them
 abbrev pub cut : ℕ → ℕ → ℕ → ℕ → ℕ → ℕ → List ℕ → Object × List ℕ
 cut name words w o c f xs = (
   record {
     name = name;
     words = words;
-    wants = wants-in (take w xs);
-    offers = offers-in (take o (drop w xs));
-    code = take c (drop o (drop w xs));
-    fits = fits-in (take f (drop c (drop o (drop w xs))));
+    wants = wants-in (chunked 3 w xs);
+    offers = offers-in (chunked 3 o (drop (3 * w) xs));
+    code = take c (drop (3 * o) (drop (3 * w) xs));
+    fits = fits-in (chunked 3 f (drop c (drop (3 * o) (drop (3 * w) xs))));
   },
-  drop f (drop c (drop o (drop w xs))),
+  drop (3 * f) (drop c (drop (3 * o) (drop (3 * w) xs))),
 )
 
 -- the object at the front of a row, and the row behind it; None where the row ends before it does
@@ -42,7 +43,7 @@ front (a ∷ b ∷ []) = None
 front (a ∷ b ∷ c ∷ []) = None
 front (a ∷ b ∷ c ∷ d ∷ []) = None
 front (a ∷ b ∷ c ∷ d ∷ e ∷ []) = None
-front (name ∷ words ∷ w ∷ o ∷ c ∷ f ∷ xs) = cond (leb (3 * w + 3 * o + c + 3 * f) (length xs)) (Some (cut name words (3 * w) (3 * o) c (3 * f) xs)) None
+front (name ∷ words ∷ w ∷ o ∷ c ∷ f ∷ xs) = cond (leb (3 * w + 3 * o + c + 3 * f) (length xs)) (Some (cut name words w o c f xs)) None
 
 -- what a reader of one object gives, in terms of `front`
 abbrev pub said : Option (ObjectView × RefT (List ℕ)) → Option (Object × List ℕ)
@@ -68,9 +69,9 @@ pub record Begun (s : List ℕ) (r : Objects) : Type 0 where
   pub short : length s ≤ 16777216
 
 -- where there is no reader, the row says no objects
-abbrev pub BegunSays : List ℕ → Option Objects → Type 0
-BegunSays s None = (os : List Object) → Object-rows s os → ⊥
-BegunSays s (Some r) = Begun s r
+abbrev pub BegunSays : List ℕ → Result Objects NoObjects → Type 0
+BegunSays s (Ok r) = Begun s r
+BegunSays s (Err e) = (os : List Object) → Object-rows s os → ⊥
 
 -- the reader r has given the object v and goes on as r′, with so much less of the row
 pub record Given (r r′ : Objects) (v : ObjectView) : Type 0 where
@@ -79,7 +80,7 @@ pub record Given (r r′ : Objects) (v : ObjectView) : Type 0 where
   pub fewer : r .left ≡ suc (r′ .left)
   pub shorter : length (now (v .code)) + length (now (r′ .rest)) < length (now (r .rest))
 
-abbrev pub NextSays : Objects → Objects → Result (Option ObjectView) NoObject → Type 0
+abbrev pub NextSays : Objects → Objects → Result (Option ObjectView) NoObjects → Type 0
 NextSays r r′ (Ok None) = (to-come r ≡ Some []) × (r′ ≡ r)
 NextSays r r′ (Ok (Some v)) = Given r r′ v
 NextSays r r′ (Err e) = (to-come r ≡ None) × (r′ ≡ r)

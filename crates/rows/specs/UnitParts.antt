@@ -10,17 +10,17 @@ use Rattle.std.specs.declared.option.Option.the-variants.{Some, None}
 use Rattle.std.specs.shelf.Lists.{All}
 use Rattle.rows.specs.Units.{Proc, SourceUnit}
 use Rattle.rows.specs.UnitRows.{rowWants, rowProcs, Unit-row}
-use Rattle.rows.specs.ObjectViews.{wants-in}
+use Rattle.rows.specs.WantRows.{wants-said}
 use Rattle.rows.specs.Bodies.{Right}
 use Rattle.rows.specs.declared.units.UnitView.{UnitView}
 
 -- the row is cut into the parts of v, whose sizes are within the limits
 pub record Cut (row : List ℕ) (v : UnitView) : Type 0 where
-  pub whole : rowWants (wants-in (now (v .wants))) ≡ now (v .wants)
-  pub parts : row ≡ v .name ∷ v .words ∷ length (wants-in (now (v .wants))) ∷ v .count ∷ length (now (v .offers)) ∷ (now (v .wants) ++ (now (v .procs) ++ now (v .offers)))
+  pub whole : rowWants (wants-said (now (v .wants))) ≡ now (v .wants)
+  pub parts : row ≡ v .name ∷ v .words ∷ length (wants-said (now (v .wants))) ∷ v .count ∷ length (now (v .offers)) ∷ (now (v .wants) ++ (now (v .procs) ++ now (v .offers)))
   pub short : length row ≤ 65536
   pub words : v .words ≤ 4096
-  pub wants : length (wants-in (now (v .wants))) ≤ 256
+  pub wants : length (wants-said (now (v .wants))) ≤ 256
   pub procs : v .count ≤ 256
 
 -- a row that cannot be cut says no unit

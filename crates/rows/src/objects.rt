@@ -1,10 +1,9 @@
 // Objects read from rows of words, one after the other, each as a view of the row.
 ghost use mathlib.Core.Path.{_≡_};
-ghost use mathlib.Core.List.{[], _∷_};
-ghost use Prim.Native.Nat.{ℕ, _+_, _<_};
-ghost use lib.ListN.{length};
+ghost use Rattle.std.specs.Finite.{nth};
+ghost use Rattle.std.specs.Options.{mapped};
 ghost use Rattle.rows.specs.ObjectRows.{sound, offers-inside, fits-inside};
-ghost use Rattle.rows.specs.ObjectViews.{want-of, wants-in, offer-of, offers-in, fit-of, fits-in, object-of, FirstSays};
+ghost use Rattle.rows.specs.ObjectViews.{want-of, want-in, offer-of, offer-in, offers-in, fit-of, fit-in, fits-in, fit-inside, object-of, what};
 ghost use Rattle.rows.specs.ObjectReading.{front, said, BegunSays, NextSays, One-list};
 
 // A want of an object: a procedure of the unit with that name, called with so many arguments.
@@ -31,70 +30,68 @@ pub struct Fit {
     pub want: u32,
 }
 
-// An object as it stands in a row: wants, offers and fits are three words each.
-#[derive(Clone, Copy, Debug)]
+// What a fit does: adds the place of the object's own code or of its own words, or puts the place of a want in the word's stead.
+#[derive(Clone, Copy, PartialEq, Eq, Debug)]
+pub enum Kind {
+    Code,
+    Words,
+    Want(u32),
+}
+
+// An object as it stands in a row: its wants, offers and fits are three words each.
+#[derive(Clone, Copy)]
 pub struct ObjectView<'a> {
     pub name: u32,
     pub words: u32,
-    pub wants: &'a [u32],
-    pub offers: &'a [u32],
+    pub wants: &'a [[u32; 3]],
+    pub offers: &'a [[u32; 3]],
     pub code: &'a [u32],
-    pub fits: &'a [u32],
+    pub fits: &'a [[u32; 3]],
 }
 
 impl Want {
-    // The first want of a row of them, and the row behind it.
-    pub fn first(row: &[u32]) -> Option<(Want, &[u32])>
-        ensures { λ r. ⌜ FirstSays wants-in want-of (now (row .entry)) r ⌝ }
+    // The want that three words of a row say.
+    pub fn of(words: &[u32; 3]) -> Want
+        ensures { λ r. ⌜ want-of r ≡ want-in (now (words .entry)) ⌝ }
     {
-        let [unit, proc, args, rest @ ..] = row else {
-            return None;
-        };
-        let want = Want {
-            unit: *unit,
-            proc: *proc,
-            args: *args,
-        };
-        Some((want, rest))
+        let [unit, proc, args] = *words;
+        Want { unit, proc, args }
     }
 }
 
 impl Offer {
-    // The first offer of a row of them, and the row behind it.
-    pub fn first(row: &[u32]) -> Option<(Offer, &[u32])>
-        ensures { λ r. ⌜ FirstSays offers-in offer-of (now (row .entry)) r ⌝ }
+    // The offer that three words of a row say.
+    pub fn of(words: &[u32; 3]) -> Offer
+        ensures { λ r. ⌜ offer-of r ≡ offer-in (now (words .entry)) ⌝ }
     {
-        let [proc, args, at, rest @ ..] = row else {
-            return None;
-        };
-        let offer = Offer {
-            proc: *proc,
-            args: *args,
-            at: *at,
-        };
-        Some((offer, rest))
+        let [proc, args, at] = *words;
+        Offer { proc, args, at }
     }
 }
 
 impl Fit {
-    // The first fit of a row of them, and the row behind it.
-    pub fn first(row: &[u32]) -> Option<(Fit, &[u32])>
-        ensures { λ r. ⌜ FirstSays fits-in fit-of (now (row .entry)) r ⌝ }
+    // The fit that three words of a row say.
+    pub fn of(words: &[u32; 3]) -> Fit
+        ensures { λ r. ⌜ fit-of r ≡ fit-in (now (words .entry)) ⌝ }
     {
-        let [at, kind, want, rest @ ..] = row else {
-            return None;
-        };
-        let fit = Fit {
-            at: *at,
-            kind: *kind,
-            want: *want,
-        };
-        Some((fit, rest))
+        let [at, kind, want] = *words;
+        Fit { at, kind, want }
+    }
+
+    // What the fit does; only the kinds 0 to 2 stand in objects.
+    pub fn what(&self) -> Kind
+        ensures { λ r. ⌜ r ≡ what (now (self .entry) .kind) (now (self .entry) .want) ⌝ }
+    {
+        match self.kind {
+            0 => Kind::Code,
+            1 => Kind::Words,
+            _ => Kind::Want(self.want),
+        }
     }
 
     // Whether the fit is of a place in a code of so many words, of one of the three kinds, and names one of so many wants if it has to.
     pub fn is_inside(&self, code: usize, wants: usize) -> bool
-        ensures { λ r. ⌜ r ≡ fits-inside code wants (fit-of (now (self .entry)) ∷ []) ⌝ }
+        ensures { λ r. ⌜ r ≡ fit-inside code wants (fit-of (now (self .entry))) ⌝ }
     {
         (self.at as usize) < code
             && self.kind < 3
@@ -103,12 +100,12 @@ impl Fit {
 }
 
 // Whether each offer begins in a code of so many words.
-fn offers_inside(offers: &[u32], code: usize) -> bool
+fn offers_inside(offers: &[[u32; 3]], code: usize) -> bool
     ensures { λ r. ⌜ r ≡ offers-inside code (offers-in (now (offers .entry))) ⌝ }
 {
     let mut left = offers;
-    while let Some((offer, rest)) = Offer::first(left) {
-        if offer.at as usize >= code {
+    while let Some((words, rest)) = left.split_first() {
+        if Offer::of(words).at as usize >= code {
             return false;
         }
         left = rest;
@@ -117,12 +114,12 @@ fn offers_inside(offers: &[u32], code: usize) -> bool
 }
 
 // Whether each fit is inside an object with so many words of code and so many wants.
-fn fits_inside(fits: &[u32], code: usize, wants: usize) -> bool
+fn fits_inside(fits: &[[u32; 3]], code: usize, wants: usize) -> bool
     ensures { λ r. ⌜ r ≡ fits-inside code wants (fits-in (now (fits .entry))) ⌝ }
 {
     let mut left = fits;
-    while let Some((fit, rest)) = Fit::first(left) {
-        if !fit.is_inside(code, wants) {
+    while let Some((words, rest)) = left.split_first() {
+        if !Fit::of(words).is_inside(code, wants) {
             return false;
         }
         left = rest;
@@ -152,12 +149,23 @@ impl<'a> ObjectView<'a> {
         let view = ObjectView {
             name: *name,
             words: *words,
-            wants,
-            offers,
+            wants: wants.as_chunks::<3>().0,
+            offers: offers.as_chunks::<3>().0,
             code,
-            fits,
+            fits: fits.as_chunks::<3>().0,
         };
         Some((view, rest))
+    }
+
+    // The want with that number, if it is there.
+    pub fn want(&self, number: usize) -> Option<Want>
+        ensures { λ r. ⌜ mapped want-of r ≡ nth (object-of (now (self .entry)) .wants) number ⌝ }
+    {
+        if number < self.wants.len() {
+            Some(Want::of(&self.wants[number]))
+        } else {
+            None
+        }
     }
 
     // Whether the object keeps to the limits: of its words, of the places of its offers, and of its fits.
@@ -167,7 +175,7 @@ impl<'a> ObjectView<'a> {
         let code = self.code.len();
         self.words <= 4096
             && offers_inside(self.offers, code)
-            && fits_inside(self.fits, code, self.wants.len() / 3)
+            && fits_inside(self.fits, code, self.wants.len())
     }
 }
 
@@ -179,44 +187,44 @@ pub const MOST_OBJECTS: usize = 256;
 
 // A row that says no list of objects.
 #[derive(Clone, Copy, PartialEq, Eq, Debug)]
-pub struct NoObject;
+pub struct NoObjects;
 
 // A reader of objects: the row that is left, and how many objects may still come.
-#[derive(Clone, Copy, Debug)]
+#[derive(Drop)]
 pub struct Objects<'a> {
     rest: &'a [u32],
     left: usize,
 }
 
 impl<'a> Objects<'a> {
-    // A reader of the whole row; none where the row is too long.
-    pub fn new(row: &'a [u32]) -> Option<Objects<'a>>
+    // A reader of the whole row, which is refused where it is too long.
+    pub fn new(row: &'a [u32]) -> Result<Objects<'a>, NoObjects>
         ensures { λ r. ⌜ BegunSays (now (row .entry)) r ⌝ }
     {
         if row.len() > MOST_WORDS {
-            return None;
+            return Err(NoObjects);
         }
-        Some(Objects {
+        Ok(Objects {
             rest: row,
             left: MOST_OBJECTS,
         })
     }
 
-    // The next object, or none at the row's end; a refusal says that the row is no list of objects.
-    pub fn next(&mut self) -> Result<Option<ObjectView<'a>>, NoObject>
+    // The next object, or none at the row's end; a row that is no list of objects is refused.
+    pub fn next(&mut self) -> Result<Option<ObjectView<'a>>, NoObjects>
         ensures { λ r. ⌜ NextSays (now (self .entry)) (now (self .exit)) r ⌝ }
     {
         if self.rest.is_empty() {
             return Ok(None);
         }
         if self.left == 0 {
-            return Err(NoObject);
+            return Err(NoObjects);
         }
         let Some((view, rest)) = ObjectView::first(self.rest) else {
-            return Err(NoObject);
+            return Err(NoObjects);
         };
         if !view.is_sound() {
-            return Err(NoObject);
+            return Err(NoObjects);
         }
         self.rest = rest;
         self.left -= 1;

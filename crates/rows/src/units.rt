@@ -4,7 +4,7 @@ ghost use lib.ListN.{length};
 ghost use lib.Dec.{eqb, leb};
 ghost use Rattle.std.specs.Orderings.{Decides};
 ghost use Rattle.rows.specs.UnitRows.{all-below, small-wants};
-ghost use Rattle.rows.specs.ObjectViews.{wants-in};
+ghost use Rattle.rows.specs.WantRows.{wants-said, FirstWantSays};
 ghost use Rattle.rows.specs.Bodies.{outlined};
 ghost use Rattle.rows.specs.UnitReading.{One-unit, ReadSays};
 ghost use Rattle.rows.specs.UnitParts.{CutSays, AritySays, Bodies-right};
@@ -62,12 +62,27 @@ fn nothing_left(row: &[u32]) -> bool
     row.is_empty()
 }
 
+// The first want of a row of them, and the row behind it.
+fn first_want(row: &[u32]) -> Option<(Want, &[u32])>
+    ensures { λ r. ⌜ FirstWantSays (now (row .entry)) r ⌝ }
+{
+    let [unit, proc, args, rest @ ..] = row else {
+        return None;
+    };
+    let want = Want {
+        unit: *unit,
+        proc: *proc,
+        args: *args,
+    };
+    Some((want, rest))
+}
+
 // Whether each want takes few enough arguments.
 fn wants_small(wants: &[u32]) -> bool
-    ensures { λ r. ⌜ r ≡ small-wants (wants-in (now (wants .entry))) ⌝ }
+    ensures { λ r. ⌜ r ≡ small-wants (wants-said (now (wants .entry))) ⌝ }
 {
     let mut left = wants;
-    while let Some((want, rest)) = Want::first(left) {
+    while let Some((want, rest)) = first_want(left) {
         if !few_args(want.args) {
             return false;
         }
@@ -143,7 +158,7 @@ impl<'a> UnitView<'a> {
 
     // How many wants the unit has.
     pub fn want_count(&self) -> usize
-        ensures { λ r. ⌜ r ≡ length (wants-in (now (now (self .entry) .wants))) ⌝ }
+        ensures { λ r. ⌜ r ≡ length (wants-said (now (now (self .entry) .wants))) ⌝ }
     {
         self.wants.len() / 3
     }

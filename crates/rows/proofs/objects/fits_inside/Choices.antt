@@ -4,8 +4,8 @@ use Rattle.rows.specs.ObjectRows.{fits-inside}
 use Rattle.rows.specs.ObjectViews.{fits-in}
 use Rattle.rows.proofs.objects.fits_inside.Given as given
 
-abbrev pub Inv-loop-fit : given.InvT-loop-fit
-Inv-loop-fit l = fits-inside (l .code) (l .wants) (fits-in (l .left)) ≡ fits-inside (l .code) (l .wants) (fits-in (l .fits))
+abbrev pub Inv-loop-words : given.InvT-loop-words
+Inv-loop-words l = fits-inside (l .code) (l .wants) (fits-in (l .left)) ≡ fits-inside (l .code) (l .wants) (fits-in (l .fits))
 
-abbrev pub μ-loop-fit : given.MeasureT-loop-fit
-μ-loop-fit l = length (l .left)
+abbrev pub μ-loop-words : given.MeasureT-loop-words
+μ-loop-words l = length (l .left)

@@ -1,0 +1,2 @@
+-- Decimal numbers in text.
+pub mod Feeding

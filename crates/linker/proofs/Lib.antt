@@ -1,0 +1,10 @@
+pub mod SoFar
+pub mod Named
+pub mod Settling
+pub mod Meeting
+pub mod Places
+pub mod Lent
+pub mod Written
+pub mod LaidObjects
+pub mod Joining
+pub mod Posts

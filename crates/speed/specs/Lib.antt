@@ -1,0 +1,2 @@
+-- The calls that are timed, as numbers.
+pub mod Says
