@@ -9,6 +9,9 @@ use crate::signs::Procedure;
 use crate::signs::Sign;
 use crate::signs::Target;
 
+// How deep expressions stand in one another at most.
+const MOST_DEPTH: u32 = 256;
+
 // What a body may name: arguments of its procedure, words of its unit, and callees by how many arguments they take.
 #[derive(Clone, Copy, Debug)]
 pub struct Scope<'a> {
@@ -71,6 +74,13 @@ impl Scope<'_> {
         let first = self.expression(row, depth)?;
         let rest = self.expressions(&row[first..], count - 1, depth)?;
         Some(first + rest)
+    }
+
+    // How many words a body at the front of a row takes that names only what is there and is not too deep; none where no such body stands there.
+    pub fn body(&self, row: &[u32]) -> Option<usize>
+        ensures { λ r. ⌜ FrontSays rowExpr (Right (outline (now (self .entry))) (now (self .entry) .args) 256) (now (row .entry)) r ⌝ }
+    {
+        self.expression(row, MOST_DEPTH)
     }
 }
 

@@ -1,5 +1,5 @@
 // Units and objects as rows of words, and the operations on words that units have.
-pub mod bodies;
+mod bodies;
 pub mod objects;
 pub mod operations;
 pub mod signs;

@@ -1,5 +1,6 @@
 // The signs of expressions, read off a row one at a time, and what they name.
 ghost use mathlib.Core.Path.{_≡_};
+ghost use lib.Dec.{ltb};
 ghost use Rattle.std.specs.Finite.{nth};
 ghost use Rattle.std.specs.Options.{mapped};
 ghost use Rattle.rows.specs.Operations.{operations, number};
@@ -60,6 +61,15 @@ pub struct Procedure(pub u32);
 pub enum Target {
     Want(u32),
     Own(Procedure),
+}
+
+impl Procedure {
+    // Whether the procedure is one of so many.
+    pub fn is_below(self, count: u32) -> bool
+        ensures { λ r. ⌜ r ≡ ltb (self .0) count ⌝ }
+    {
+        self.0 < count
+    }
 }
 
 impl Callee {

@@ -1,10 +1,8 @@
 // Units read from rows of words, each as a view of its row.
 ghost use mathlib.Core.Path.{_≡_};
-ghost use mathlib.Core.List.{List, map};
-ghost use Prim.Native.Nat.{ℕ, _≤_};
 ghost use lib.ListN.{length};
+ghost use lib.Dec.{eqb, leb};
 ghost use Rattle.std.specs.Orderings.{Decides};
-ghost use Rattle.rows.specs.Units.{Want, Proc};
 ghost use Rattle.rows.specs.UnitRows.{all-below, small-wants};
 ghost use Rattle.rows.specs.WantRows.{wants-said, FirstWantSays};
 ghost use Rattle.rows.specs.Bodies.{outlined};
@@ -13,6 +11,7 @@ ghost use Rattle.rows.specs.UnitParts.{CutSays, AritySays, Bodies-right};
 use crate::bodies::Scope;
 use crate::bodies::skip;
 use crate::objects::Want;
+use crate::signs::Procedure;
 
 // The most words that a unit's row has.
 pub const MOST_ROWS: usize = 65_536;
@@ -27,9 +26,6 @@ pub const MOST_PROCS: u32 = 256;
 
 // The most arguments that a want or a procedure takes.
 pub const MOST_ARGS: u32 = 8;
-
-// How deep expressions stand in one another at most.
-pub const MOST_DEPTH: u32 = 256;
 
 // A unit as it stands in its row: wants are three words each, a procedure is its number of arguments and its body, an offer is a procedure's number.
 #[derive(Clone, Copy, Debug)]
@@ -50,6 +46,20 @@ pub enum Refusal {
     NoUnit,
     // Fewer words are lent than a unit can have procedures.
     Short,
+}
+
+// Whether a want or a procedure may take so many arguments.
+fn few_args(args: u32) -> bool
+    ensures { λ r. ⌜ r ≡ leb args 8 ⌝ }
+{
+    args <= MOST_ARGS
+}
+
+// Whether nothing of a row is left over.
+fn nothing_left(row: &[u32]) -> bool
+    ensures { λ r. ⌜ r ≡ eqb (length (now (row .entry))) 0 ⌝ }
+{
+    row.is_empty()
 }
 
 // The first want of a row of them, and the row behind it.
@@ -73,7 +83,7 @@ fn wants_small(wants: &[u32]) -> bool
 {
     let mut left = wants;
     while let Some((want, rest)) = first_want(left) {
-        if want.args > MOST_ARGS {
+        if !few_args(want.args) {
             return false;
         }
         left = rest;
@@ -86,7 +96,7 @@ fn offers_below(offers: &[u32], count: u32) -> bool
     ensures { λ r. ⌜ r ≡ all-below count (now (offers .entry)) ⌝ }
 {
     for offer in offers {
-        if *offer >= count {
+        if !Procedure(*offer).is_below(count) {
             return false;
         }
     }
@@ -102,7 +112,7 @@ fn read_arities(procs: &[u32], arities: &mut [u32]) -> bool
         let [args, body @ ..] = left else {
             return false;
         };
-        if *args > MOST_ARGS {
+        if !few_args(*args) {
             return false;
         }
         let Some(size) = skip(body) else {
@@ -111,7 +121,7 @@ fn read_arities(procs: &[u32], arities: &mut [u32]) -> bool
         *arity = *args;
         left = &body[size..];
     }
-    left.is_empty()
+    nothing_left(left)
 }
 
 impl<'a> UnitView<'a> {
@@ -168,12 +178,12 @@ impl<'a> UnitView<'a> {
                 wants: self.wants,
                 arities,
             };
-            let Some(size) = scope.expression(body, MOST_DEPTH) else {
+            let Some(size) = scope.body(body) else {
                 return false;
             };
             left = &body[size..];
         }
-        left.is_empty()
+        nothing_left(left)
     }
 
     // The unit that a row says. How many arguments its procedures take is written to the front of `arities`; a refusal may have changed words there.

@@ -12,8 +12,8 @@ use Rattle.rows.proofs.units.UnitView.bodies_right.Needs as need
 pub returns-in-rest : need.returns-in-rest
 returns-in-rest c = none-right (λ k. nothing-left _ _ (c .loop .inv .1) (search needs) (k .1) (search needs))
 
-pub returns-in-rest-expression : need.returns-in-rest-expression
-returns-in-rest-expression c = none-right (λ k. wrong-body _ _ (c .loop .inv .1) (search needs) (k .1) _ (search needs) (c .in-rest-expression .ensures tt) (right-at _ _))
+pub returns-in-rest-body : need.returns-in-rest-body
+returns-in-rest-body c = none-right (λ k. wrong-body _ _ (c .loop .inv .1) (search needs) (k .1) _ (search needs) (c .in-rest-body .ensures tt) (right-at _ _))
 
 pub loop-again : need.loop-again
 loop-again c =
@@ -21,4 +21,4 @@ loop-again c =
     (c .loop .inv .0 ++ p .0 ∷ [], p .2)
 
 pub returns : need.returns
-returns c = all-bodies _ (c .is-empty .result) (c .loop .inv .1) (omega arith) (c .is-empty .ensures)
+returns c = all-bodies _ (c .nothing-left .result) (c .loop .inv .1) (omega arith) (c .nothing-left .ensures)
