@@ -26,3 +26,5 @@ pub mod Alone
 pub mod Promised
 pub mod Sizes
 pub mod RunLinked
+pub mod PlacedCode
+pub mod Smallest

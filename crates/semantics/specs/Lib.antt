@@ -9,3 +9,4 @@ pub mod Budgets
 pub mod Company
 pub mod Theorems
 pub mod RunLinked
+pub mod Smallest
