@@ -1,10 +1,11 @@
-//! Times the proved linker and compiler beside the plain ones in linker.rs and compiler.rs, after comparing what they give.
+//! Times the proved linker and compiler beside the plain ones, after comparing what they give.
 //!
 //! `bench/run` builds it: the proved ones come from the static library of the crate `speed`.
 
 mod compiler;
 mod inputs;
 mod linker;
+mod tree_compiler;
 
 use inputs::{Chance, Sizes};
 use std::hint::black_box;
@@ -98,33 +99,34 @@ fn compile_space(unit: &[u32]) -> (usize, usize) {
     (256 + 32 * unit.len(), 4096 + 16 * unit.len())
 }
 
-/// The number of a plain compiler's answer in `speed_compile_answer`.
-#[cfg(compiles)]
-fn compile_number(answer: compiler::Compiled) -> u32 {
+/// The number of a plain compiler's answer in `speed_compile_answer`, and the object's length.
+fn compile_number(answer: compiler::Compiled) -> (u32, usize) {
     match answer {
-        compiler::Compiled::Object(_) => 0,
-        compiler::Compiled::Short => 1,
-        compiler::Compiled::NoUnit => 2,
+        compiler::Compiled::Object(size) => (0, size),
+        compiler::Compiled::Short => (1, 0),
+        compiler::Compiled::NoUnit => (2, 0),
     }
 }
 
-/// Compiles a row both ways into so many words, with so many words to work with; the answers and all words of the object are the same.
+/// Compiles a row in each way into so many words, with so many words to work with; the answers and all words of the object are the same.
 /// The answer's number, and the object's length.
-#[cfg(compiles)]
 fn compare_objects(row: &[u32], space: usize, work: usize) -> (u32, usize) {
-    let mut objects = [vec![FILL; space], vec![FILL; space], vec![FILL; space]];
-    let mut work = vec![FILL; work];
-    let size = proved::compile(row, &mut objects[0], &mut work);
-    let number = proved::compile_answer(row, &mut objects[1], &mut work);
-    let answer = compiler::compile(row, &mut objects[2], work.len());
-    assert_eq!(number, compile_number(answer), "another answer on {} words", row.len());
-    assert_eq!(size, if let compiler::Compiled::Object(size) = answer { size } else { 0 }, "another size on {} words", row.len());
-    assert!(objects[0] == objects[2] && objects[1] == objects[2], "another object on {} words", row.len());
-    (number, size)
+    let (mut object, mut tree_object) = (vec![FILL; space], vec![FILL; space]);
+    let answer = compiler::compile(row, &mut object, work);
+    assert_eq!(answer, tree_compiler::compile(row, &mut tree_object, work), "another answer on {} words", row.len());
+    assert!(object == tree_object, "another object on {} words", row.len());
+    #[cfg(compiles)]
+    {
+        let (mut ours, mut again, mut work) = (vec![FILL; space], vec![FILL; space], vec![FILL; work]);
+        let size = proved::compile(row, &mut ours, &mut work);
+        let number = proved::compile_answer(row, &mut again, &mut work);
+        assert_eq!((number, size), compile_number(answer), "another answer on {} words", row.len());
+        assert!(ours == object && again == object, "another object on {} words", row.len());
+    }
+    compile_number(answer)
 }
 
 /// Compares the compilers on damaged rows.
-#[cfg(compiles)]
 fn compare_damaged_objects() {
     let mut chance = Chance::new(4);
     let row = inputs::unit(&mut chance, 3, 4, 40);
@@ -145,7 +147,7 @@ fn compare_damaged_objects() {
 }
 
 /// Seconds for each of `times` calls.
-fn seconds(times: usize, call: &mut impl FnMut()) -> f64 {
+fn seconds(times: usize, call: &mut dyn FnMut()) -> f64 {
     let start = Instant::now();
     for _ in 0..times {
         call();
@@ -159,18 +161,29 @@ fn best_and_median(mut times: Vec<f64>, words: usize) -> [f64; 2] {
     [times[0], times[times.len() / 2]].map(|time| time * 1e9 / words as f64)
 }
 
-/// Times two calls in turn, and prints the time for each of so many words.
-fn race(words: usize, mut ours: impl FnMut(), mut theirs: impl FnMut()) {
-    let once = (0..5).map(|_| seconds(1, &mut theirs)).fold(SECONDS_A_ROUND, f64::min);
-    let times = (SECONDS_A_ROUND / once).ceil() as usize;
-    seconds(times, &mut ours);
-    let (our_times, their_times) = (0..ROUNDS).map(|_| (seconds(times, &mut ours), seconds(times, &mut theirs))).unzip();
-    let (ours, theirs) = (best_and_median(our_times, words), best_and_median(their_times, words));
-    println!("  {ROUNDS} rounds of {times} calls{:>10}{:>10}", "best", "median");
-    for (name, [best, median]) in [("proved", ours), ("plain", theirs)] {
-        println!("  {name:24}{best:7.2} ns{median:7.2} ns  a word of the row");
+/// Times calls in turn, and prints the time of each for each of so many words, and how the first one's time compares with it.
+fn race(words: usize, calls: &mut [(&str, &mut dyn FnMut())]) {
+    let mut runs = vec![];
+    for (_, call) in calls.iter_mut() {
+        let once = (0..5).map(|_| seconds(1, call)).fold(SECONDS_A_ROUND, f64::min);
+        runs.push((SECONDS_A_ROUND / once).ceil() as usize);
     }
-    println!("  {:24}{:10.2}{:10.2}", "ratio", ours[0] / theirs[0], ours[1] / theirs[1]);
+    let mut times = vec![vec![]; calls.len()];
+    for _ in 0..ROUNDS {
+        for (i, (_, call)) in calls.iter_mut().enumerate() {
+            times[i].push(seconds(runs[i], call));
+        }
+    }
+    let times: Vec<[f64; 2]> = times.into_iter().map(|times| best_and_median(times, words)).collect();
+    println!("  {:24}{:>10}{:>10}{:>20}", "", "best", "median", "ratio of the first");
+    for (i, (name, _)) in calls.iter().enumerate() {
+        let [best, median] = times[i];
+        print!("  {name:24}{best:7.2} ns{median:7.2} ns");
+        if i > 0 {
+            print!("{:10.2}{:10.2}", times[0][0] / best, times[0][1] / median);
+        }
+        println!();
+    }
 }
 
 /// Times both linkers on 256 objects with these names.
@@ -184,42 +197,35 @@ fn race_links(what: &str, names: &[u32]) {
     let (mut ours, mut theirs) = (vec![FILL; space], vec![FILL; space]);
     race(
         row.len(),
-        || assert!(proved::link(black_box(&row), black_box(&mut ours)) > 0),
-        || assert!(linker::link(black_box(&row), black_box(&mut theirs)).is_ok()),
+        &mut [
+            ("proved", &mut || assert!(proved::link(black_box(&row), black_box(&mut ours)) > 0)),
+            ("plain", &mut || assert!(linker::link(black_box(&row), black_box(&mut theirs)).is_ok())),
+        ],
     );
 }
 
-/// Times both compilers on a unit of many procedures.
-#[cfg(compiles)]
+/// Times the compilers on a unit of many procedures; the plain ones alone, where the library has none.
 fn race_compilers() {
     let row = inputs::unit(&mut Chance::new(5), 64, 256, 90);
-    let (space, work) = compile_space(&row);
-    let (number, size) = compare_objects(&row, space, work);
+    let (space, lent) = compile_space(&row);
+    let (number, size) = compare_objects(&row, space, lent);
     assert_eq!(number, 0, "the unit compiles");
     println!("compile, a unit of 256 procedures: {} words of rows, same object of {size} words", row.len());
-    let (mut ours, mut theirs, mut work) = (vec![FILL; space], vec![FILL; space], vec![FILL; work]);
-    let lent = work.len();
-    race(
-        row.len(),
-        || assert!(proved::compile(black_box(&row), black_box(&mut ours), black_box(&mut work)) > 0),
-        || assert!(matches!(compiler::compile(black_box(&row), black_box(&mut theirs), lent), compiler::Compiled::Object(_))),
-    );
+    let (mut object, mut tree_object) = (vec![FILL; space], vec![FILL; space]);
+    let mut one_pass = || assert!(is_object(compiler::compile(black_box(&row), black_box(&mut object), lent)));
+    let mut tree = || assert!(is_object(tree_compiler::compile(black_box(&row), black_box(&mut tree_object), lent)));
+    #[cfg(compiles)]
+    {
+        let (mut ours, mut work) = (vec![FILL; space], vec![FILL; lent]);
+        let mut proved = || assert!(proved::compile(black_box(&row), black_box(&mut ours), black_box(&mut work)) > 0);
+        race(row.len(), &mut [("proved", &mut proved), ("plain, one pass", &mut one_pass), ("plain, by a tree", &mut tree)]);
+    }
+    #[cfg(not(compiles))]
+    race(row.len(), &mut [("plain, one pass", &mut one_pass), ("plain, by a tree", &mut tree)]);
 }
 
-/// Times the plain compiler alone, where the library has none to compare it with.
-#[cfg(not(compiles))]
-fn race_compilers() {
-    let row = inputs::unit(&mut Chance::new(5), 64, 256, 90);
-    let (space, work) = compile_space(&row);
-    let mut object = vec![FILL; space];
-    let compiler::Compiled::Object(size) = compiler::compile(&row, &mut object, work) else {
-        panic!("the unit compiles");
-    };
-    let mut call = || assert!(matches!(compiler::compile(black_box(&row), black_box(&mut object), work), compiler::Compiled::Object(_)));
-    let times = (0..ROUNDS).map(|_| seconds(10, &mut call)).collect();
-    let [best, median] = best_and_median(times, row.len());
-    println!("compile, a unit of 256 procedures: {} words of rows, an object of {size} words; no proved compiler yet", row.len());
-    println!("  plain                   {best:7.2} ns{median:7.2} ns  a word of the row");
+fn is_object(answer: compiler::Compiled) -> bool {
+    matches!(answer, compiler::Compiled::Object(_))
 }
 
 fn main() {
@@ -228,7 +234,9 @@ fn main() {
     race_links("names at random", &inputs::random_names(&mut Chance::new(2), 256));
     race_links("names 1 to 256", &Vec::from_iter(1..=256));
     race_links("names that differ in their upper half only", &Vec::from_iter((1..=256).map(|n| n << 16)));
-    #[cfg(compiles)]
+    if cfg!(not(compiles)) {
+        println!("The library has no compiler yet: the plain ones are compared with each other.");
+    }
     compare_damaged_objects();
     race_compilers();
 }
