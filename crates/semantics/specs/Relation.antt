@@ -45,8 +45,10 @@ run-unit (suc d) u i x p room vs s =
 
 -- a machine that still runs holds a program's state
 pub record Represents (shape : List ℕ) (s : State) (m : Machine) : Type 0 where
+  -- each unit has the words that were laid for it, and they lie at the front of memory, one unit's behind the other's
   pub sized : sizes (s .words) ≡ shape
   pub words : take (total shape) (m .memory) ≡ flat (s .words)
+  -- what can be taken, what was put out and the calls left are the program's
   pub tape : m .tape ≡ s .tape
   pub outs : m .outs ≡ s .outs
   pub left : m .left ≡ s .left
@@ -61,14 +63,18 @@ pub record CallSite : Type 0 where
 -- place a has just been called, with the values vs at the call's base and this much room
 pub record Entered (shape : List ℕ) (a : ℕ) (site : CallSite) (room : ℕ) (vs : List ℕ) (s : State) (m : Machine) : Type 0 where
   pub represents : Represents shape s m
+  -- control is at the callee, and the stack ends behind the two words that a call pushes
   pub pc : m .pc ≡ a
   pub sp : m .sp ≡ site .base + (length vs + 2)
+  -- the machine counts the room that the definition counts; it is a word
   pub free : m .free ≡ room
   pub room-word : room < 2 ^ 32
   -- the stack lies above the units' words, and what the room counts is there
   pub above : total shape ≤ site .base
   pub fits : site .base + room ≤ length (m .memory)
+  -- every place in memory is a word, so that a return place and an fp can be kept there
   pub addressable : length (m .memory) ≤ 2 ^ 32
+  -- the caller counts the arguments as the callee does, from the base on
   pub arguments : (j : ℕ) → j < length vs → at m (site .base + j) ≡ getD vs j 0
   -- behind the arguments lie the return place and the caller's fp, unless the memory ends before; there is no room for a frame then
   pub return : site .base + (length vs + 1) < length (m .memory) → (at m (site .base + length vs) ≡ site .back) × (at m (site .base + (length vs + 1)) ≡ site .fp)
@@ -76,13 +82,16 @@ pub record Entered (shape : List ℕ) (a : ℕ) (site : CallSite) (room : ℕ) (
 -- the call has returned v, with the state s, and the stack below it is as it was
 pub record Returned (shape : List ℕ) (site : CallSite) (v : ℕ) (s : State) (m m′ : Machine) : Type 0 where
   pub represents : Represents shape s m′
+  -- control is back at the caller, with its own frame
   pub pc : m′ .pc ≡ site .back
   pub fp : m′ .fp ≡ site .fp
+  -- the value lies where the arguments began, and nothing is left above it
   pub sp : m′ .sp ≡ site .base + 1
   pub value : at m′ (site .base) ≡ v
   -- the frame was given back
   pub free : m′ .free ≡ m .free
   pub memory : length (m′ .memory) ≡ length (m .memory)
+  -- temporaries of the caller are not lost over the call
   pub below : (j : ℕ) → total shape ≤ j → j < site .base → at m′ j ≡ at m j
 
 -- the machine halts so, having put out these words
@@ -105,8 +114,10 @@ Simulates code shape d a k f =
 
 -- the object's code lies at c in the code, its words are the i-th of the shape, and ps are the places of its wants
 pub record Placed (u : SourceUnit) (o : Object) (code shape : List ℕ) (i c : ℕ) (ps : List ℕ) : Type 0 where
+  -- every place in the code is a word, so that a return place can be kept
   pub addressable : length code < 2 ^ 32
   pub words : nth shape i ≡ Some (u .words)
+  -- every fit was done: jumps and words were moved, wants were filled in, and no other word was touched
   pub lies : take (length (o .code)) (drop c code) ≡ fit-all (record { object = o; code-at = c; words-at = total (take i shape) }) ps (o .fits) (o .code)
 
 -- as long as calls of the unit's wants, at the places ps, do what x says
