@@ -28,3 +28,4 @@ pub mod Sizes
 pub mod RunLinked
 pub mod PlacedCode
 pub mod Smallest
+pub mod Wrong

@@ -10,3 +10,4 @@ pub mod Company
 pub mod Theorems
 pub mod RunLinked
 pub mod Smallest
+pub mod Wrong
