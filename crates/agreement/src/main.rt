@@ -1,6 +1,8 @@
 // Works out the sets of units in data/ by the proved crates: compiles each unit alone, links the objects in each of the set's ways, and runs
 // them. For each file it prints its name, and for each set a line, just as the reference program does by the definition in words: `stdout` is
 // what that one prints.
+#![tactic(auto)]
+
 use decimal::input::read_words;
 use std::{fs, io};
 

@@ -1,4 +1,6 @@
 // The compiler: from a unit's row to the row of its object.
+#![tactic(auto)]
+
 ghost use Rattle.std.specs.Prelude.{◌≡◌, length, Decides};
 ghost use Rattle.compiler.specs.Correct.{Compiles, FitsSpace};
 ghost use Rattle.compiler.specs.Together.{CompiledRuns};

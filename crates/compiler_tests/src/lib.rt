@@ -1,4 +1,5 @@
 // Tests of the compiler: the worked units, and units at each limit and one past it.
+#![tactic(auto)]
 
 #[cfg(test)]
 mod tests {

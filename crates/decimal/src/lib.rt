@@ -1,4 +1,6 @@
 // Decimal numbers below 2^32 in text, separated by white space.
+#![tactic(auto)]
+
 ghost use Rattle.std.specs.Prelude.{◌≡◌, None};
 ghost use Rattle.decimal.specs.Feeding.{fed, ended, longer, number_from};
 

@@ -29,7 +29,7 @@ impl Laid<'_> {
 
     // Where the code and the words of the next object come to lie: behind those of this one.
     fn behind(&self) -> (u32, u32)
-        requires code { (laid_of self.now).code-at + length (laid_of self.now).object.code < 2 ^ 32 }
+        requires code { (laid_of self.now).code_at + length (laid_of self.now).object.code < 2 ^ 32 }
         requires words { (laid_of self.now).words_at + (laid_of self.now).object.words < 2 ^ 32 }
         ensures { Behind (laid_of self.now) result }
     {

@@ -1,4 +1,6 @@
 // Linking objects: laying them one behind the other, finding what each wants, fitting their code, and writing the image.
+#![tactic(auto)]
+
 ghost use Rattle.linker.specs.Says.{LinkedPost};
 
 mod directory;

@@ -1,4 +1,5 @@
 // Tests of the linker: objects made by hand, and the images that they link to.
+#![tactic(auto)]
 
 #[cfg(test)]
 mod tests {

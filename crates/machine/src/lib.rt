@@ -1,4 +1,6 @@
 // The machine that runs images. Its instructions are the table in specs/Instructions; here they are done on lent memory.
+#![tactic(auto)]
+
 ghost use Rattle.std.specs.Prelude.{length};
 ghost use Rattle.machine.specs.Says.{RanPost};
 

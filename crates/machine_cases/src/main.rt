@@ -1,6 +1,8 @@
 // Runs the machine at its edges. A line of data/cases is a case: the code's length and words, the tape's length and words, then words,
 // room, calls, steps, and how many words of `out` and of work are lent. Its name is the same line of data/names, and what is to come of it
 // the same line of `stdout`.
+#![tactic(auto)]
+
 use decimal::input::read_words;
 use machine::Ran;
 use std::fs;

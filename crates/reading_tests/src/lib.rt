@@ -1,4 +1,5 @@
 // Tests of reading: decimal text, and the rows of units.
+#![tactic(auto)]
 
 #[cfg(test)]
 mod tests {

@@ -1,8 +1,8 @@
 -- An expression at the front of a row, read as its sign and then its parts, and parts one behind the other.
-use Rattle.std.proofs.Common.{◌≡◌, ℕ, zero, suc, ◌+◌, ◌-◌, ◌≤◌, Bool, true, false, T, List, [], ◌∷◌, ◌++◌, length, take, drop, Some, None, sym, refl, ap, ◌∙◌, subst, ap₂, arith}
-use Rattle.std.proofs.lemmas.List.{append_assoc, length-append, length-drop, drop-drop, take_rest}
+use Rattle.std.proofs.Common.{◌≡◌, ℕ, suc, ◌+◌, true, false, T, List, ◌++◌, drop, Some, None, sym, refl, ap, ◌∙◌, subst, ap₂, arith}
+use Rattle.std.proofs.lemmas.List.{append_assoc, length-append, length-drop, drop-drop}
 use Rattle.rows.specs.Units.{Expr, Exprs, nil, cons, count, SourceUnit}
-use Rattle.rows.specs.Formed.{formed, formed_args, depth, depths}
+use Rattle.rows.specs.Formed.{formed, formed_args}
 use Rattle.rows.specs.UnitRows.{row_expr, row_exprs}
 use Rattle.rows.specs.Signs.{row_sign, part_count, sign_of, parts, SignSays}
 use Rattle.rows.specs.RowFronts.{Begins, FrontSays}

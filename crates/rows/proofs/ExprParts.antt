@@ -1,8 +1,7 @@
 -- An expression is its sign and its parts: its row, and induction over the parts.
-use Rattle.std.proofs.Common.{◌≡◌, ℕ, ◌≤◌, List, [], ◌∷◌, ◌++◌, length, Some, None, Option, sym, refl, ap, ◌∙◌, arith}
-use Rattle.std.specs.Option.{option_map}
+use Rattle.std.proofs.Common.{◌≡◌, ◌≤◌, ◌++◌, length, Some, refl, ap, arith}
 use Rattle.std.specs.List.{slice_get}
-use Rattle.std.proofs.lemmas.List.{append-nil, append_assoc}
+use Rattle.std.proofs.lemmas.List.{append-nil}
 use Rattle.rows.specs.Operations.{Op, Add, Sub, Mul, Div, Less, Same, number, operations}
 use Rattle.rows.specs.Units.{Expr, num, arg, word, op, if, keep, then, out, next, call, Exprs, nil, cons, count}
 use Rattle.rows.specs.UnitRows.{row_expr, row_exprs}
@@ -11,7 +10,6 @@ use Rattle.rows.specs.declared.signs.Operation.{Operation as OperationSign}
 use Rattle.rows.specs.declared.signs.Operation.TheVariants as sign
 use Rattle.rows.specs.declared.signs.Sign.{Sign}
 use Rattle.rows.specs.declared.signs.Sign.TheVariants.{Number, Argument, Word, Operation, If, Keep, Then, Out, Next, Call}
-use Rattle.rows.proofs.Decided.{some_injective}
 
 -- the number of an operation's sign is that of the operation
 pub op_of_sign : (o : Op) → op_of (op_sign o) ≡ o

@@ -1,5 +1,5 @@
 -- At most one expression, and one list of so many, stands at the front of a row.
-use Rattle.std.proofs.Common.{◌≡◌, ℕ, List, [], ◌∷◌, ◌++◌, sym, refl, ap, ◌∙◌, ap₂, arith}
+use Rattle.std.proofs.Common.{◌≡◌, ℕ, List, ◌++◌, sym, refl, ap, ◌∙◌, ap₂, arith}
 use Rattle.std.proofs.lemmas.List.{append_assoc}
 use Rattle.rows.specs.Units.{Expr, Exprs, nil, cons, count}
 use Rattle.rows.specs.UnitRows.{row_expr, row_exprs}

@@ -1,8 +1,8 @@
 -- A row says at most one unit.
-use Rattle.std.proofs.Common.{◌≡◌, ℕ, List, [], ◌∷◌, ◌++◌, length, sym, refl, ap, ◌∙◌, ap₂, arith}
+use Rattle.std.proofs.Common.{◌≡◌, ℕ, List, [], ◌∷◌, ◌++◌, length, sym, refl, ◌∙◌, ap₂, arith}
 use Rattle.std.proofs.lemmas.List.{append_assoc}
 use Rattle.rows.specs.Units.{Want, Proc, SourceUnit}
-use Rattle.rows.specs.UnitRows.{row_expr, row_wants, row_procs, row_unit, UnitRow}
+use Rattle.rows.specs.UnitRows.{row_expr, row_wants, row_procs, row_unit}
 use Rattle.rows.specs.UnitReading.{OneUnit}
 use Rattle.rows.proofs.OneExpr.{one_expr}
 

@@ -1,8 +1,8 @@
 -- What a body may name depends on a unit's outline alone: its words, its wants and how many arguments its procedures take.
-use Rattle.std.proofs.Common.{◌≡◌, ℕ, zero, suc, ◌-◌, ◌≤◌, Bool, true, false, cond, ◌&&◌, T, ltb, leb, List, [], ◌∷◌, map, length, Option, sym, refl, ap, ◌∙◌, subst, ap₂}
+use Rattle.std.proofs.Common.{◌≡◌, ℕ, zero, suc, ◌-◌, cond, ◌&&◌, T, ltb, List, [], ◌∷◌, map, length, sym, refl, ap, ◌∙◌, subst, ap₂}
 use Rattle.std.specs.Option.{option_map}
 use Rattle.std.specs.List.{slice_get}
-use Rattle.rows.specs.Units.{Expr, Exprs, nil, cons, Want, Proc, SourceUnit, arity}
+use Rattle.rows.specs.Units.{Expr, Exprs, nil, cons, Proc, SourceUnit, arity}
 use Rattle.rows.specs.Formed.{takes, formed, formed_args}
 use Rattle.rows.specs.Signs.{sign_of, parts}
 use Rattle.rows.specs.WantRows.{wants_said}

@@ -1,5 +1,5 @@
 -- One step of the reader.
-use Rattle.std.proofs.Common.{◌≡◌, ℕ, suc, ◌-◌, true, List, ◌∷◌, Some, sym, ap, ◌∙◌, arith, Bor}
+use Rattle.std.proofs.Common.{◌≡◌, ℕ, suc, ◌-◌, true, List, Some, sym, ap, ◌∙◌, arith, Bor}
 use Rattle.rows.specs.ObjectRows.{sound}
 use Rattle.rows.specs.ObjectViews.{object_of}
 use Rattle.rows.specs.ObjectReading.{front, said, objects_in, Given}

@@ -1,6 +1,6 @@
 -- An expression is right if its sign is allowed and its parts are right and one less deep.
-use Rattle.std.proofs.Common.{◌≡◌, ℕ, suc, ◌≤◌, Bool, true, false, ◌&&◌, T, ltb, sym, refl, ap, ◌∙◌, arith}
-use Rattle.rows.specs.Units.{Expr, num, arg, word, op, if, keep, then, out, next, call, Exprs, nil, cons, count, SourceUnit}
+use Rattle.std.proofs.Common.{◌≡◌, ℕ, suc, Bool, true, false, ◌&&◌, T, ltb, sym, refl, ap, arith}
+use Rattle.rows.specs.Units.{Expr, num, arg, word, op, if, keep, then, out, next, call, Exprs, SourceUnit}
 use Rattle.rows.specs.Formed.{formed, formed_args, depth, depths}
 use Rattle.rows.specs.Signs.{part_count, sign_of, parts}
 use Rattle.rows.specs.Bodies.{allowed, Right, RightParts}

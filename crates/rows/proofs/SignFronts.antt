@@ -3,7 +3,7 @@ use Rattle.std.proofs.Common.{◌≡◌, ℕ, List, [], ◌∷◌, ◌++◌, Som
 use Rattle.std.specs.Option.{option_map}
 use Rattle.std.specs.List.{slice_get}
 use Rattle.rows.specs.Options.{◌>>=◌}
-use Rattle.rows.specs.Operations.{operations, number}
+use Rattle.rows.specs.Operations.{operations}
 use Rattle.rows.specs.Signs.{op_of, op_sign, row_sign}
 use Rattle.rows.specs.declared.signs.Sign.{Sign}
 use Rattle.rows.specs.declared.signs.Sign.TheVariants.{Number, Argument, Word, Operation, If, Keep, Then, Out, Next, Call}

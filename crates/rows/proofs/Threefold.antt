@@ -2,8 +2,6 @@
 use Rattle.std.proofs.Common.{◌≡◌, ℕ, zero, suc, ◌*◌, ◌/◌, ◌≤◌, List, [], ◌∷◌, ◌++◌, map, length, take, sym, refl, ap, ◌∙◌, arith}
 use Rattle.std.proofs.lemmas.List.{length-take-le}
 use Rattle.std.specs.Simd.{first_chunks}
-use Rattle.rows.specs.Units.{Want}
-use Rattle.rows.specs.Objects.{Fit, Offer}
 use Rattle.rows.specs.UnitRows.{row_wants}
 use Rattle.rows.specs.ObjectRows.{row_offers, row_fits}
 use Rattle.rows.specs.ObjectViews.{want_in, offer_in, fit_in}

@@ -1,11 +1,11 @@
 -- A unit's row cut by its counts, and the limits of wants and offers, one after the other.
-use Rattle.std.proofs.Common.{◌≡◌, ℕ, ◌+◌, ◌-◌, ◌*◌, ◌<◌, ◌≤◌, Bool, true, false, List, [], ◌∷◌, ◌++◌, length, get_or, take, drop, sym, refl, ap, ◌∙◌, subst, arith}
-use Rattle.std.proofs.lemmas.List.{append_assoc, length-append, length-drop, length-take-le, take-append-drop, take_rest, at_drop_more, at_drop_all}
+use Rattle.std.proofs.Common.{◌≡◌, ℕ, ◌+◌, ◌-◌, ◌*◌, ◌<◌, ◌≤◌, true, false, List, [], ◌∷◌, ◌++◌, length, get_or, take, drop, sym, ap, ◌∙◌, subst, arith}
+use Rattle.std.proofs.lemmas.List.{length-append, length-drop, length-take-le, take-append-drop, at_drop_more, at_drop_all}
 use Rattle.std.proofs.lemmas.Bool.{lt-ltb, le-ltb, le-leb}
 use Rattle.rows.specs.Units.{Want, SourceUnit}
-use Rattle.rows.specs.UnitRows.{row_wants, row_procs, row_unit, small_wants, all_below, UnitRow}
+use Rattle.rows.specs.UnitRows.{row_wants, row_procs, small_wants, all_below, UnitRow}
 use Rattle.rows.specs.WantRows.{wants_said}
-use Rattle.rows.specs.UnitParts.{Cut, CutSays}
+use Rattle.rows.specs.UnitParts.{Cut}
 use Rattle.rows.specs.declared.units.UnitView.{UnitView}
 use Rattle.rows.proofs.WantRows.{length_written, written_again, length_read}
 

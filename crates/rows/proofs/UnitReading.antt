@@ -1,16 +1,16 @@
 -- A unit is read off its row: what the parts of the check say of it together.
-use Rattle.std.proofs.Common.{◌≡◌, ℕ, ◌-◌, ◌≤◌, Bool, true, false, ◌&&◌, T, leb, List, [], ◌∷◌, ◌++◌, map, length, take, drop, Decides, sym, refl, ap, ◌∙◌, subst, ap₂, arith}
+use Rattle.std.proofs.Common.{◌≡◌, ℕ, ◌-◌, ◌≤◌, true, false, ◌&&◌, T, leb, List, [], ◌∷◌, ◌++◌, map, length, take, drop, sym, refl, ap, ◌∙◌, subst, ap₂, arith}
 use Rattle.std.specs.List.{AllByRecursion as All}
 use borrow.Rule.Slice.PartMut.{post_of}
 use Rattle.std.proofs.lemmas.Slice.{drop-append-drop}
 use Rattle.std.proofs.lemmas.List.{append-nil, length-append, length-take-le, take_at, drop_at}
 use Rattle.std.proofs.lemmas.Bool.{le-leb, leb-true, both_ways}
 use Rattle.std.proofs.ByRecursion.{All-weaker}
-use Rattle.rows.specs.Units.{Want, Proc, SourceUnit}
+use Rattle.rows.specs.Units.{Proc, SourceUnit}
 use Rattle.rows.specs.Formed.{formed, formed_procs, depth}
 use Rattle.rows.specs.UnitRows.{row_wants, row_procs, row_unit, small_wants, small_procs, all_below, UnitRow}
 use Rattle.rows.specs.WantRows.{wants_said}
-use Rattle.rows.specs.Bodies.{outlined, Right}
+use Rattle.rows.specs.Bodies.{outlined}
 use Rattle.rows.specs.UnitViews.{ViewOf}
 use Rattle.rows.specs.UnitReading.{Shown}
 use Rattle.rows.specs.UnitParts.{Cut, Procedures, FewArgs, BodyRight, AritySays, BodiesRight}

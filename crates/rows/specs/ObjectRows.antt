@@ -1,5 +1,5 @@
 -- Objects as a row of words, one after the other, and their limits.
-use Rattle.std.specs.Prelude.{◌≡◌, ℕ, ◌≤◌, Bool, true, false, ◌&&◌, ◌||◌, T, List, [], ◌∷◌, ◌++◌, length, nat_le, nat_lt}
+use Rattle.std.specs.Prelude.{◌≡◌, ℕ, ◌≤◌, Bool, true, ◌&&◌, ◌||◌, T, List, [], ◌∷◌, ◌++◌, length, nat_le, nat_lt}
 use Rattle.rows.specs.UnitRows.{row_wants}
 use Rattle.rows.specs.Objects.{Fit, Offer, Object}
 

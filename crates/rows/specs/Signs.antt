@@ -1,12 +1,11 @@
 -- The sign of an expression: what the expression is, and what stands before its parts in its row.
-use Rattle.std.specs.Prelude.{◌≡◌, ℕ, ◌-◌, cond, List, [], ◌∷◌, ◌++◌, Some, None, Option, ◌≢◌, nat_lt}
+use Rattle.std.specs.Prelude.{ℕ, ◌-◌, cond, List, [], ◌∷◌, ◌++◌, Some, None, Option, ◌≢◌, nat_lt}
 use Rattle.rows.specs.Operations.{Op, Add, Sub, Mul, Div, Less, Same, number}
 use Rattle.rows.specs.Units.{Expr, num, arg, word, op, if, keep, then, out, next, call, Exprs, nil, cons, count}
 use Rattle.rows.specs.RowFronts.{Begins}
 use Rattle.rows.specs.declared.signs.Operation.{Operation as OperationSign}
 use Rattle.rows.specs.declared.signs.Operation.TheVariants as sign
 use Rattle.rows.specs.declared.signs.Callee.{Callee}
-use Rattle.rows.specs.declared.signs.Procedure.{Procedure}
 use Rattle.rows.specs.declared.signs.Target.{Target}
 use Rattle.rows.specs.declared.signs.Target.TheVariants.{Want, Own}
 use Rattle.rows.specs.declared.signs.Sign.{Sign}

@@ -1,5 +1,5 @@
 -- A unit as a row of words, and its limits.
-use Rattle.std.specs.Prelude.{◌≡◌, ℕ, ◌≤◌, Bool, true, false, ◌&&◌, T, List, [], ◌∷◌, ◌++◌, length, nat_le, nat_lt}
+use Rattle.std.specs.Prelude.{◌≡◌, ℕ, ◌≤◌, Bool, true, ◌&&◌, T, List, [], ◌∷◌, ◌++◌, length, nat_le, nat_lt}
 use Rattle.rows.specs.Operations.{number}
 use Rattle.rows.specs.Units.{Expr, num, arg, word, op, if, keep, then, out, next, call, Exprs, nil, cons, count, Want, Proc, SourceUnit}
 use Rattle.rows.specs.Formed.{formed_procs, depth}

@@ -1,4 +1,6 @@
 // Units and objects as rows of words, and the operations on words that units have.
+#![tactic(auto)]
+
 pub mod bodies;
 pub mod objects;
 pub mod operations;

@@ -1,4 +1,6 @@
 // What units do together: the definitions stand in specs/, and a function for each theorem of them here; and objects linked and run as the units do.
+#![tactic(auto)]
+
 pub mod examples;
 pub mod laws;
 pub mod linked;

@@ -1,4 +1,6 @@
 // The linker and the compiler for callers in C or Rust, to time them beside plain ones. A slice is a pointer and then a length there, and an answer is a number.
+#![tactic(auto)]
+
 ghost use Rattle.std.specs.Prelude.{length};
 ghost use Rattle.speed.specs.Says.{LinkLength, LinkAnswer, CompileLength, CompileAnswer};
 

@@ -1,4 +1,6 @@
 // Compiles a unit's row, given in decimal on standard input, and prints the row of its object.
+#![tactic(auto)]
+
 ghost use Rattle.std.specs.Prelude.{◌≡◌};
 ghost use Rattle.unitc.specs.Outcomes.{outcome};
 

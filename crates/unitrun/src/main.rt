@@ -1,4 +1,6 @@
 // Links objects and runs them, or runs an image, on a tape that is given on standard input.
+#![tactic(auto)]
+
 ghost use Rattle.std.specs.Prelude.{◌≡◌};
 ghost use Rattle.std.specs.Option.{option_map};
 ghost use Rattle.unitrun.specs.Lines.{ending_of, sizes_of};

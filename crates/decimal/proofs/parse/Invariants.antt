@@ -4,4 +4,4 @@ use Rattle.decimal.proofs.parse.Given as goal
 
 -- what is left of the text gives the number of the whole
 abbrev pub invariant-loop-b : goal.invariant-loop-b
-invariant-loop-b l = number_from l.so-far (drop l.b-index l.b-items) ≡ number_from None l.b-items
+invariant-loop-b l = number_from l.so_far (drop l.b-index l.b-items) ≡ number_from None l.b-items

@@ -7,4 +7,4 @@ use Rattle.linker.specs.Fitting.{places_of}
 use Rattle.linker.proofs.fitting.fit_code.Goals as goal
 
 pub returns : goal.returns
-returns c = sym (ap (λ left. fit_all (laid_of c.args.own.now) (places_of (laid_by c.args.directory.now) (laid_of c.args.own.now).object.wants) (fits_in left) c.loop-words.code) (nil_from_length c.loop-words.left.now c.in-default.ensures.cases)) ∙ c.loop-words.invariant
+returns c = sym (ap (λ left. fit_all (laid_of c.args.own.now) (places_of (laid_by c.args.directory.now) (laid_of c.args.own.now).object.wants) (fits_in left) c.loop-words.code) (nil_from_length c.loop-words.left.now c.in_default.ensures.cases)) ∙ c.loop-words.invariant

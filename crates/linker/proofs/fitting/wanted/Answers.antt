@@ -10,7 +10,7 @@ pub returns-in-Some : goal.returns-in-Some
 returns-in-Some c =
     let all = some_value (places (laid_by c.args.directory.now) (object_of c.args.object.now).wants) [] c.requires.met in
     let here = place_at (laid_by c.args.directory.now) (object_of c.args.object.now).wants _ c.args.number _ all (sym c.in-Some.ensures) in
-    c.unwrap-or.ensures ∙ ap (λ r. unwrap_or r 0) (c.place.ensures ∙ here)
+    c.unwrap_or.ensures ∙ ap (λ r. unwrap_or r 0) (c.place.ensures ∙ here)
 
 pub returns-in-None : goal.returns-in-None
 returns-in-None c =

@@ -6,11 +6,11 @@ use Rattle.rows.proofs.bodies.skip.Goals as goal
 pub loop-pending-init : goal.loop-pending-init
 loop-pending-init c = one_pending c.args.row.now
 
-pub returns-in-err-sign : goal.returns-in-err-sign
-returns-in-err-sign c = rw c.from-residual.ensures (none_skipped _ _ _ (c.loop-pending.pending - 1) (omega arith) c.loop-pending.invariant c.in-err-sign.ensures)
+pub returns-in_err-sign : goal.returns-in_err-sign
+returns-in_err-sign c = rw c.from_residual.ensures (none_skipped _ _ _ (c.loop-pending.pending - 1) (omega arith) c.loop-pending.invariant c.in_err-sign.ensures)
 
 pub loop-pending-preserved : goal.loop-pending-preserved
-loop-pending-preserved c = parts_pending _ _ _ _ (omega arith) c.loop-pending.invariant _ _ _ _ c.in-ok-sign.ensures c.parts.ensures (take_rest c.loop-pending.left.now c.in-ok-sign.size)
+loop-pending-preserved c = parts_pending _ _ _ _ (omega arith) c.loop-pending.invariant _ _ _ _ c.in_ok-sign.ensures c.parts.ensures (take_rest c.loop-pending.left.now c.in_ok-sign.size)
 
 pub returns : goal.returns
 returns c = all_skipped _ _ _ (omega arith) c.loop-pending.invariant

@@ -5,4 +5,4 @@ use Rattle.rows.specs.ObjectViews.{offers_in}
 use Rattle.rows.proofs.objects.offers_inside.Goals as goal
 
 pub returns : goal.returns
-returns c = sym (sym c.loop-words.invariant ∙ ap (λ left. offers_inside c.args.code (offers_in left)) (nil_from_length c.loop-words.left.now c.in-default.ensures.cases))
+returns c = sym (sym c.loop-words.invariant ∙ ap (λ left. offers_inside c.args.code (offers_in left)) (nil_from_length c.loop-words.left.now c.in_default.ensures.cases))

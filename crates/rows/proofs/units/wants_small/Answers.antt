@@ -7,4 +7,4 @@ use Rattle.rows.proofs.UnitCuts.{small_more}
 use Rattle.rows.proofs.units.wants_small.Goals as goal
 
 pub loop-want-preserved : goal.loop-want-preserved
-loop-want-preserved c = sym (small_more (want_of c.in-Some.want) (wants_said c.in-Some.rest.now) (leb-true _ _ (sym c.if-not-few-args.ensures))) ∙ (ap small_wants (sym c.in-Some.ensures.reads) ∙ c.loop-want.invariant)
+loop-want-preserved c = sym (small_more (want_of c.in-Some.want) (wants_said c.in-Some.rest.now) (leb-true _ _ (sym c.if-not-few_args.ensures))) ∙ (ap small_wants (sym c.in-Some.ensures.reads) ∙ c.loop-want.invariant)

@@ -6,4 +6,4 @@ use Rattle.linker.specs.Tables.{laid_by}
 use Rattle.linker.proofs.directory.Directory.meets.Goals as goal
 
 pub returns : goal.returns
-returns c = sym (sym c.loop-words.invariant ∙ ap (λ left. is_some (places (laid_by c.args.self.now) (wants_in left))) (nil_from_length c.loop-words.left.now c.in-default.ensures.cases))
+returns c = sym (sym c.loop-words.invariant ∙ ap (λ left. is_some (places (laid_by c.args.self.now) (wants_in left))) (nil_from_length c.loop-words.left.now c.in_default.ensures.cases))

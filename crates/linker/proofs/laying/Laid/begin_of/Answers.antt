@@ -3,7 +3,7 @@ use Rattle.linker.specs.Tables.{laid_of}
 use Rattle.linker.proofs.Settling.{offer_below}
 use Rattle.linker.proofs.laying.Laid.begin_of.Goals as goal
 
-pub overflow-add-result : goal.overflow-add-result
-overflow-add-result c =
-    let h = offer_below (laid_of c.args.self.now) c.args.proc c.args.args c.in-ok-at.at c.requires (sym c.in-ok-at.ensures) in
+pub overflow_add-result : goal.overflow_add-result
+overflow_add-result c =
+    let h = offer_below (laid_of c.args.self.now) c.args.proc c.args.args c.in_ok-at.at c.requires (sym c.in_ok-at.ensures) in
     search rules

@@ -6,29 +6,29 @@ use Rattle.rows.proofs.bodies.Scope.+expression_expressions.Goals as goal
 pub expression-returns-then-depth-eq0 : goal.expression-returns-then-depth-eq0
 expression-returns-then-depth-eq0 t c = too_deep _ _ _ _ c.if-depth-eq0.true
 
-pub expression-returns-in-err-sign : goal.expression-returns-in-err-sign
-expression-returns-in-err-sign t c = rw c.from-residual.ensures (no_sign _ _ _ _ c.in-err-sign.ensures)
+pub expression-returns-in_err-sign : goal.expression-returns-in_err-sign
+expression-returns-in_err-sign t c = rw c.from_residual.ensures (no_sign _ _ _ _ c.in_err-sign.ensures)
 
 pub expression-returns-then-not-allows : goal.expression-returns-then-not-allows
-expression-returns-then-not-allows t c = not_allowed _ _ _ _ _ _ c.in-ok-sign.ensures (sym c.if-not-allows.ensures)
+expression-returns-then-not-allows t c = not_allowed _ _ _ _ _ _ c.in_ok-sign.ensures (sym c.if-not-allows.ensures)
 
-pub expression-returns-in-err-parts : goal.expression-returns-in-err-parts
-expression-returns-in-err-parts t c = rw c.from-residual-in-err-parts.ensures (no_parts _ _ _ _ _ _ c.in-ok-sign.ensures _ _ _ (omega arith) c.parts.ensures (take_rest c.args.row.now c.in-ok-sign.size) c.in-err-parts.ensures)
+pub expression-returns-in_err-parts : goal.expression-returns-in_err-parts
+expression-returns-in_err-parts t c = rw c.from_residual-in_err-parts.ensures (no_parts _ _ _ _ _ _ c.in_ok-sign.ensures _ _ _ (omega arith) c.parts.ensures (take_rest c.args.row.now c.in_ok-sign.size) c.in_err-parts.ensures)
 
-pub expression-overflow-add-result : goal.expression-overflow-add-result
-expression-overflow-add-result t c = let h = simp (take_rest, length-drop) at c.in-ok-parts.ensures.2.inside in let k = c.in-ok-sign.ensures.inside in search rules
+pub expression-overflow_add-result : goal.expression-overflow_add-result
+expression-overflow_add-result t c = let h = simp (take_rest, length-drop) at c.in_ok-parts.ensures.2.inside in let k = c.in_ok-sign.ensures.inside in search rules
 
 pub expression-returns : goal.expression-returns
-expression-returns t c = with_parts _ _ _ _ _ _ c.in-ok-sign.ensures _ _ _ (omega arith) c.parts.ensures (take_rest c.args.row.now c.in-ok-sign.size) _ (sym c.if-not-allows.ensures) c.in-ok-parts.ensures
+expression-returns t c = with_parts _ _ _ _ _ _ c.in_ok-sign.ensures _ _ _ (omega arith) c.parts.ensures (take_rest c.args.row.now c.in_ok-sign.size) _ (sym c.if-not-allows.ensures) c.in_ok-parts.ensures
 
 pub expressions-returns-then-count-eq0 : goal.expressions-returns-then-count-eq0
 expressions-returns-then-count-eq0 t c = none_left _ _ _ _ _ c.if-count-eq0.true
 
-pub expressions-returns-in-err-first : goal.expressions-returns-in-err-first
-expressions-returns-in-err-first t c = rw c.from-residual.ensures (no_first _ _ _ _ _ c.if-count-eq0.false c.in-err-first.ensures)
+pub expressions-returns-in_err-first : goal.expressions-returns-in_err-first
+expressions-returns-in_err-first t c = rw c.from_residual.ensures (no_first _ _ _ _ _ c.if-count-eq0.false c.in_err-first.ensures)
 
-pub expressions-returns-in-err-rest : goal.expressions-returns-in-err-rest
-expressions-returns-in-err-rest t c = rw c.from-residual-in-err-rest.ensures (no_rest _ _ _ _ _ _ _ _ (omega arith) (take_rest c.args.row.now c.in-ok-first.first) c.in-ok-first.ensures c.in-err-rest.ensures)
+pub expressions-returns-in_err-rest : goal.expressions-returns-in_err-rest
+expressions-returns-in_err-rest t c = rw c.from_residual-in_err-rest.ensures (no_rest _ _ _ _ _ _ _ _ (omega arith) (take_rest c.args.row.now c.in_ok-first.first) c.in_ok-first.ensures c.in_err-rest.ensures)
 
 pub expressions-returns : goal.expressions-returns
-expressions-returns t c = with_rest _ _ _ _ _ _ _ _ (omega arith) (take_rest c.args.row.now c.in-ok-first.first) c.in-ok-first.ensures _ c.in-ok-rest.ensures
+expressions-returns t c = with_rest _ _ _ _ _ _ _ _ (omega arith) (take_rest c.args.row.now c.in_ok-first.first) c.in_ok-first.ensures _ c.in_ok-rest.ensures

@@ -3,29 +3,29 @@ use Rattle.std.proofs.lemmas.Bool.{true≢false}
 use Rattle.rows.proofs.UnitReading.{wants_wrong, offers_wrong, arities_wrong, bodies_wrong, unit_shown, lent, behind_lent, kept_behind}
 use Rattle.rows.proofs.units.UnitView.read.Goals as goal
 
-pub returns-then-not-wants-small : goal.returns-then-not-wants-small
-returns-then-not-wants-small c = (search rules, wants_wrong _ _ c.in-Some.ensures (sym c.if-not-wants-small.ensures), refl)
+pub returns-then-not-wants_small : goal.returns-then-not-wants_small
+returns-then-not-wants_small c = (search rules, wants_wrong _ _ c.in-Some.ensures (sym c.if-not-wants_small.ensures), refl)
 
-pub returns-then-not-offers-below : goal.returns-then-not-offers-below
-returns-then-not-offers-below c = (search rules, offers_wrong _ _ c.in-Some.ensures (sym c.if-not-offers-below.ensures), refl)
+pub returns-then-not-offers_below : goal.returns-then-not-offers_below
+returns-then-not-offers_below c = (search rules, offers_wrong _ _ c.in-Some.ensures (sym c.if-not-offers_below.ensures), refl)
 
-pub returns-then-not-read-arities : goal.returns-then-not-read-arities
-returns-then-not-read-arities c =
+pub returns-then-not-read_arities : goal.returns-then-not-read_arities
+returns-then-not-read_arities c =
     let few = c.in-Some.ensures.procs in
     let n = lent c.args.arities.now _ few c.if-arities.false in
-    (c.if-arities.false, arities_wrong _ _ c.in-Some.ensures _ c.read-arities.new.arities n c.if-not-read-arities.ensures, kept_behind _ _ few c.if-arities.false _ (c.read-arities.auto.arities ∙ n))
+    (c.if-arities.false, arities_wrong _ _ c.in-Some.ensures _ c.read_arities.new.arities n c.if-not-read_arities.ensures, kept_behind _ _ few c.if-arities.false _ (c.read_arities.auto.arities ∙ n))
 
-pub returns-then-not-bodies-right : goal.returns-then-not-bodies-right
-returns-then-not-bodies-right c =
+pub returns-then-not-bodies_right : goal.returns-then-not-bodies_right
+returns-then-not-bodies_right c =
     let few = c.in-Some.ensures.procs in
     let n = lent c.args.arities.now _ few c.if-arities.false in
-    let m = c.read-arities.auto.arities ∙ n in
-    (c.if-arities.false, bodies_wrong _ _ c.in-Some.ensures _ _ _ n m c.if-not-read-arities.ensures (λ h. true≢false (sym (c.if-not-bodies-right.ensures.1 h))), kept_behind _ _ few c.if-arities.false _ m)
+    let m = c.read_arities.auto.arities ∙ n in
+    (c.if-arities.false, bodies_wrong _ _ c.in-Some.ensures _ _ _ n m c.if-not-read_arities.ensures (λ h. true≢false (sym (c.if-not-bodies_right.ensures.1 h))), kept_behind _ _ few c.if-arities.false _ m)
 
 pub returns : goal.returns
 returns c =
     let few = c.in-Some.ensures.procs in
     let n = lent c.args.arities.now _ few c.if-arities.false in
-    let m = c.read-arities.auto.arities ∙ n in
-    let right = c.if-not-bodies-right.ensures.0 refl in
-    unit_shown _ _ c.in-Some.ensures _ _ _ n m c.if-not-read-arities.ensures right.0 right.1 (sym c.if-not-wants-small.ensures) (sym c.if-not-offers-below.ensures) _ _ c.if-arities.false (behind_lent _ _ few c.if-arities.false _)
+    let m = c.read_arities.auto.arities ∙ n in
+    let right = c.if-not-bodies_right.ensures.0 refl in
+    unit_shown _ _ c.in-Some.ensures _ _ _ n m c.if-not-read_arities.ensures right.0 right.1 (sym c.if-not-wants_small.ensures) (sym c.if-not-offers_below.ensures) _ _ c.if-arities.false (behind_lent _ _ few c.if-arities.false _)
