@@ -1,5 +1,5 @@
 -- Objects that are settled: each place that is found is a word.
-use Rattle.std.proofs.Common.{◌≡◌, ℕ, zero, suc, ◌+◌, ◌^◌, ◌<◌, ◌≤◌, Bool, true, false, cond, ◌&&◌, T, eqb, leb, List, [], ◌∷◌, length, get_or, Some, None, Option, refl, ap, subst, arith, ltb→lt}
+use Rattle.std.proofs.Common.{◌≡◌, ℕ, zero, suc, ◌+◌, ◌^◌, ◌<◌, Bool, true, false, cond, ◌&&◌, T, eqb, leb, List, [], ◌∷◌, length, get_or, Some, None, Option, refl, subst, arith, ltb→lt}
 use Rattle.rows.specs.Objects.{Offer, Object}
 use Rattle.rows.specs.ObjectRows.{offers_inside, fits_inside, sound}
 use Rattle.rows.proofs.Decided.{none≢some, some_injective, T-parts}

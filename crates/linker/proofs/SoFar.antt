@@ -1,9 +1,8 @@
 -- The loop that lays objects: what has been laid so far, and what is still to come.
-use Rattle.std.proofs.Common.{◌≡◌, ℕ, suc, ◌+◌, ◌*◌, ◌^◌, ◌<◌, ◌≤◌, T, List, [], ◌∷◌, ◌++◌, map, length, take, set, Some, None, Option, sym, refl, ap, ◌∙◌, arith, leb→le}
+use Rattle.std.proofs.Common.{◌≡◌, ℕ, ◌+◌, ◌*◌, ◌^◌, ◌<◌, ◌≤◌, List, [], ◌∷◌, ◌++◌, length, take, set, Some, None, Option, sym, refl, ap, ◌∙◌, arith, leb→le}
 use Rattle.std.proofs.lemmas.List.{append-nil, append_assoc, take_more_set, map_push}
 use Rattle.std.specs.Option.{option_map}
 use Rattle.rows.specs.Objects.{Object}
-use Rattle.rows.specs.ObjectRows.{ObjectRows}
 use Rattle.rows.specs.ObjectViews.{object_of}
 use Rattle.rows.specs.ObjectReading.{to_come, Begun, Given}
 use Rattle.rows.specs.declared.objects.ObjectView.{ObjectView}

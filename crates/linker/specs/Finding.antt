@@ -1,5 +1,5 @@
 -- What has to hold of laid objects before wants are looked for in them.
-use Rattle.std.specs.Prelude.{◌≡◌, ℕ, ◌+◌, ◌^◌, ◌≤◌, false, T, List, [], ◌∷◌, length, Some, None, Option}
+use Rattle.std.specs.Prelude.{◌≡◌, ℕ, ◌+◌, ◌^◌, ◌≤◌, false, T, List, [], ◌∷◌, length, Some, Option}
 use Rattle.rows.specs.Options.{◌>>=◌}
 use Rattle.rows.specs.ObjectRows.{sound}
 use Rattle.linker.specs.Linking.{Laid, offered, twice}

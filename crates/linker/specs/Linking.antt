@@ -1,5 +1,5 @@
 -- What a linker makes of a list of objects.
-use Rattle.std.specs.Prelude.{ℕ, zero, suc, ◌+◌, ◌%◌, ◌^◌, Bool, true, false, cond, ◌&&◌, ◌||◌, List, [], ◌∷◌, ◌++◌, length, Some, None, Option, ◌==◌, slice_index, slice_set}
+use Rattle.std.specs.Prelude.{ℕ, zero, suc, ◌+◌, ◌%◌, ◌^◌, Bool, false, cond, ◌&&◌, ◌||◌, List, [], ◌∷◌, ◌++◌, length, Some, None, Option, ◌==◌, slice_index, slice_set}
 use Rattle.rows.specs.Options.{◌>>=◌}
 use Rattle.rows.specs.Units.{Want}
 use Rattle.rows.specs.Objects.{Fit, Offer, Object}

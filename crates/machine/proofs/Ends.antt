@@ -3,7 +3,7 @@ use Rattle.std.proofs.Common.{◌≡◌, ℕ, ◌+◌, ◌-◌, ◌<◌, ◌≤�
 use Rattle.std.proofs.lemmas.List.{take_more_set, drop-set-lt, drop-drop, get_or-drop, drop_all}
 use Rattle.machine.specs.declared.registers.Status.TheVariants.{Running}
 use Rattle.machine.specs.declared.registers.Registers.{Registers}
-use Rattle.machine.specs.Registers.{halted_as, machine, Within, OneOut, TookNext}
+use Rattle.machine.specs.Registers.{halted_as, OneOut, TookNext}
 
 pub one_out : (r : Registers) (memory out : List ℕ) (v : ℕ) → r.status ≡ Running → r.put < length out → v ≡ get_or memory (r.sp - 1) 0 →
     OneOut r (record { pc = r.pc + 2; fp = r.fp; sp = r.sp; free = r.free; left = r.left; read = r.read; put = r.put + 1; status = r.status }) memory out (set out r.put v)

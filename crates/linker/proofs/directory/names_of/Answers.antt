@@ -1,4 +1,4 @@
-use Rattle.std.proofs.Common.{sym, ap, ◌∙◌, arith, length-set}
+use Rattle.std.proofs.Common.{◌∙◌, arith, length-set}
 use Rattle.linker.proofs.Named.{names_more, names_all}
 use Rattle.linker.proofs.directory.names_of.Goals as goal
 
