@@ -1,7 +1,7 @@
 -- Neither order nor company matters: units of one program are found in the other by their names.
 use Rattle.std.proofs.Common.{◌≡◌, ℕ, zero, suc, ◌-◌, ◌<◌, Bool, true, false, cond, T, ltb, ◌≢◌, List, [], ◌∷◌, ◌++◌, length, get_or, set, replicate, Some, None, Option, sym, refl, ap, ◌∙◌, subst, subst₂, inr, ⊎_elim, le_refl}
 use Rattle.std.specs.List.{slice_get}
-use Rattle.std.proofs.iter.runs.Lists.{none_some, same_Some}
+use Rattle.std.proofs.iter.runs.Lists.{none-some, same_Some}
 use Rattle.std.proofs.lemmas.List.{length-set, get_or-set_same, get_or-set_other}
 use Rattle.std.proofs.lemmas.Bool.{cases_eq}
 use Rattle.rows.specs.Options.{◌>>=◌}
@@ -32,7 +32,7 @@ length-zeros [] = refl
 length-zeros (u ∷ us) = ap suc (length-zeros us)
 
 zeros_at : (us : List SourceUnit) (i : ℕ) (w : SourceUnit) → slice_get us i ≡ Some w → get_or (zeros us) i [] ≡ replicate w.words 0
-zeros_at [] i w e = absurd (none_some w e)
+zeros_at [] i w e = absurd (none-some w e)
 zeros_at (u ∷ us) zero w e = ap (λ v. replicate v.words 0) (same_Some u w e)
 zeros_at (u ∷ us) (suc i) w e = zeros_at us i w e
 

@@ -1,6 +1,6 @@
 -- How runs of the machine end: a machine that has ended stays so, and what it puts out before is a beginning of all that it puts out.
 use Rattle.std.proofs.Common.{◌≡◌, ℕ, zero, suc, ◌+◌, ◌-◌, ◌≤◌, List, Some, sym, refl, ap, ◌∙◌, add_comm, arith}
-use Rattle.std.proofs.iter.runs.Lists.{none_some, same_Some}
+use Rattle.std.proofs.iter.runs.Lists.{none-some, same_Some}
 use Rattle.machine.specs.Machine.{Machine}
 use Rattle.machine.specs.Instructions.{steps}
 use Rattle.machine.proofs.Steps.{steps_add, steps_halted, steps_go_on}
@@ -8,16 +8,16 @@ use Rattle.semantics.specs.Whole.{Behaviour, done, without_calls, without_room, 
 use Rattle.semantics.specs.Budgets.{Begins, put_out}
 
 behaves_halted : (h : ℕ) (outs : List ℕ) (b : Behaviour) → halted_behaviour h outs ≡ Some b → (k : ℕ) × (h ≡ suc k)
-behaves_halted zero outs b e = absurd (none_some b e)
+behaves_halted zero outs b e = absurd (none-some b e)
 behaves_halted (suc k) outs b e = (k, refl)
 
 -- the words of a machine that has ended are those that its behaviour says
 shows_outs : (h : ℕ) (outs : List ℕ) (b : Behaviour) → halted_behaviour h outs ≡ Some b → outs ≡ put_out b
-shows_outs zero outs b e = absurd (none_some b e)
+shows_outs zero outs b e = absurd (none-some b e)
 shows_outs (suc zero) outs b e = ap put_out (same_Some (done outs) b e)
 shows_outs (suc (suc zero)) outs b e = ap put_out (same_Some (without_calls outs) b e)
 shows_outs (suc (suc (suc zero))) outs b e = ap put_out (same_Some (without_room outs) b e)
-shows_outs (suc (suc (suc (suc h)))) outs b e = absurd (none_some b e)
+shows_outs (suc (suc (suc (suc h)))) outs b e = absurd (none-some b e)
 
 -- once a machine has ended it goes on having ended so
 later : (a c : ℕ) (code : List ℕ) (m : Machine) (b : Behaviour) → machine_behaviour (steps a code m) ≡ Some b → machine_behaviour (steps (a + c) code m) ≡ Some b
@@ -46,4 +46,4 @@ module _ (code : List ℕ) (m : Machine) (n : ℕ) (b : Behaviour) (ends : machi
   pub runs_no_more : n ≤ k → (steps k code m).halted ≡ 0 → ⊥
   runs_no_more le running =
       let same : n + (k - n) ≡ k = omega arith in
-      none_some b (sym (ap (λ h. halted_behaviour h (steps k code m).outs) running) ∙ (rw same at (later n (k - n) code m b ends)))
+      none-some b (sym (ap (λ h. halted_behaviour h (steps k code m).outs) running) ∙ (rw same at (later n (k - n) code m b ends)))

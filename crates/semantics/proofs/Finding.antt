@@ -3,7 +3,7 @@ use Rattle.std.proofs.Common.{◌≡◌, ℕ, zero, suc, ◌+◌, Bool, true, fa
 use mathlib.Core.Path.{fun_ext}
 use Rattle.std.specs.Option.{option_map}
 use Rattle.std.specs.List.{slice_get}
-use Rattle.std.proofs.iter.runs.Lists.{none_some, same_Some}
+use Rattle.std.proofs.iter.runs.Lists.{none-some, same_Some}
 use Rattle.rows.specs.Options.{◌>>=◌}
 use Rattle.rows.specs.Units.{Want, SourceUnit}
 use Rattle.rows.specs.Objects.{Object}
@@ -89,7 +89,7 @@ splits ls w ws ps e =
 
 -- each want's place stands at its number
 pub places_at : (ls : List Laid) (ws : List Want) (ps : List ℕ) (n : ℕ) (w : Want) → places ls ws ≡ Some ps → slice_get ws n ≡ Some w → place ls w ≡ Some (get_or ps n 0)
-places_at ls [] ps n w e there = absurd (none_some w there)
+places_at ls [] ps n w e there = absurd (none-some w there)
 places_at ls (v ∷ ws) ps zero w e there = first (splits ls v ws ps e)
   where
     first : Splits ls v ws ps → place ls w ≡ Some (get_or ps 0 0)

@@ -2,7 +2,7 @@
 use Rattle.std.proofs.Common.{◌≡◌, ℕ, zero, suc, ◌+◌, List, [], ◌∷◌, ◌++◌, length, take, drop, Some, sym, refl, ap, ◌∙◌, ap₂, add-zero, add_assoc, zero-add, length-set, drop-drop, take_at}
 use lib.Seq.{drop-append-add}
 use Rattle.std.specs.List.{slice_get}
-use Rattle.std.proofs.iter.runs.Lists.{none_some, same_Some}
+use Rattle.std.proofs.iter.runs.Lists.{none-some, same_Some}
 use Rattle.rows.specs.Objects.{Fit, Object}
 use Rattle.linker.specs.Linking.{Laid, lay, places, fit_all, codes, entry, link, all_words}
 use Rattle.semantics.specs.Relation.{total}
@@ -22,7 +22,7 @@ total-widths [] = refl
 total-widths (o ∷ os) = ap (λ n. o.words + n) (total-widths os)
 
 pub nth-widths : (os : List Object) (i : ℕ) (o : Object) → slice_get os i ≡ Some o → slice_get (widths os) i ≡ Some o.words
-nth-widths [] i o e = absurd (none_some o e)
+nth-widths [] i o e = absurd (none-some o e)
 nth-widths (q ∷ os) zero o e = ap (λ r. Some r.words) (same_Some _ _ e)
 nth-widths (q ∷ os) (suc i) o e = nth-widths os i o e
 
@@ -61,7 +61,7 @@ drop_behind : (xs ys : List ℕ) (k n : ℕ) → length xs ≡ k → drop (k + n
 drop_behind xs ys k n e = rw (← e) (drop-append-add xs ys n)
 
 pub codes_at : (all : List Laid) (os : List Object) (c w : ℕ) (code : List ℕ) (i : ℕ) (o : Object) → codes all (lay os c w) ≡ Some code → slice_get os i ≡ Some o → Stands all os c w code i o
-codes_at all [] c w code i o e there = absurd (none_some o there)
+codes_at all [] c w code i o e there = absurd (none-some o there)
 codes_at all (q ∷ os) c w code zero o e there = first (splits all (laid_at q c w) (lay os (c + length q.code) (w + q.words)) code e)
   where
     first : Splits all (laid_at q c w) (lay os (c + length q.code) (w + q.words)) code → Stands all (q ∷ os) c w code 0 o

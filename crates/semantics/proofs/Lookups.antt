@@ -2,7 +2,7 @@
 use Rattle.std.proofs.Common.{◌≡◌, ℕ, zero, suc, ◌-◌, Bool, true, false, cond, ◌&&◌, T, ltb, List, [], ◌∷◌, length, Some, None, Option, sym, refl, ap, ◌∙◌, subst, subst₂, eqb→eq}
 use Rattle.std.specs.Option.{option_map}
 use Rattle.std.specs.List.{slice_get}
-use Rattle.std.proofs.iter.runs.Lists.{none_some, same_Some}
+use Rattle.std.proofs.iter.runs.Lists.{none-some, same_Some}
 use Rattle.rows.specs.Options.{◌>>=◌}
 use Rattle.rows.specs.Units.{Want, Proc, SourceUnit, arity}
 use Rattle.rows.specs.Formed.{takes, formed, formed_procs}
@@ -24,7 +24,7 @@ both_and false false t u = t
 -- f tests every element: `λ _ _. refl` shows its clause
 pub nth_passes : {X : Type 0} (p : X → Bool) (f : List X → Bool) → ((x : X) (xs : List X) → f (x ∷ xs) ≡ (p x && f xs)) →
     (xs : List X) (i : ℕ) (y : X) → T (f xs) → slice_get xs i ≡ Some y → T (p y)
-nth_passes p f more [] i y t e = absurd (none_some y e)
+nth_passes p f more [] i y t e = absurd (none-some y e)
 nth_passes p f more (x ∷ xs) zero y t e = subst (λ z. T (p z)) (same_Some x y e) (and_both (p x) (f xs) (rw (more x xs) at t)).0
 nth_passes p f more (x ∷ xs) (suc i) y t e = nth_passes p f more xs i y (and_both (p x) (f xs) (rw (more x xs) at t)).1 e
 
@@ -36,7 +36,7 @@ all_pass p f none more (x ∷ xs) h = subst T (sym (more x xs)) (both_and (p x) 
 
 -- where two steps that may find nothing found something, the first did
 pub both_found : {A B : Type 0} (o : Option A) (f : A → Option B) (b : B) → (o >>= f) ≡ Some b → (a : A) × (o ≡ Some a) × (f a ≡ Some b)
-both_found None f b e = absurd (none_some b e)
+both_found None f b e = absurd (none-some b e)
 both_found (Some a) f b e = (a, refl, e)
 
 pub found_both : {A B : Type 0} {o : Option A} (f : A → Option B) {a : A} {b : B} → o ≡ Some a → f a ≡ Some b → (o >>= f) ≡ Some b

@@ -1,6 +1,6 @@
 -- The image that objects of units are linked to does what the units do.
 use Rattle.std.proofs.Common.{◌≡◌, ℕ, suc, ◌+◌, ◌^◌, ◌<◌, ◌≤◌, List, [], ◌∷◌, length, Some, refl, arith}
-use Rattle.std.proofs.iter.runs.Lists.{none_some, same_Some}
+use Rattle.std.proofs.iter.runs.Lists.{none-some, same_Some}
 use Rattle.rows.specs.Units.{SourceUnit}
 use Rattle.rows.specs.Objects.{Object}
 use Rattle.machine.specs.Machine.{begin}
@@ -20,7 +20,7 @@ use Rattle.semantics.proofs.Start.{outermost, called, first_call, ends_so}
 first_outcome : {us : List SourceUnit} {os : List Object} → ObjectsOf us os → (image : List ℕ) (linked : ImageOf os image) → length image < 2 ^ 32 →
     (room calls : ℕ) (tape : List ℕ) → room < 2 ^ 32 → all_words os + room ≤ 2 ^ 32 →
     Outcome image (widths os) (outermost (all_words os)) calls (called linked.0 (all_words os) room tape calls) (source us room tape calls)
-first_outcome none image linked short room calls tape small fits = absurd (none_some linked.0 linked.2)
+first_outcome none image linked short room calls tape small fits = absurd (none-some linked.0 linked.2)
 first_outcome (more {u} {o} {us} {os} h hs) image linked short room calls tape small fits = offers_it (both_found (offered 0 0 o.offers) _ linked.0 linked.2)
   where
     offers_it : (a : ℕ) × (offered 0 0 o.offers ≡ Some a) × (Some (4 + a) ≡ Some linked.0) →

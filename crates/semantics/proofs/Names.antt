@@ -3,7 +3,7 @@ use Rattle.std.proofs.Common.{◌≡◌, ℕ, zero, suc, ◌<◌, Bool, true, fa
 use lib.Dec.{eqb_refl}
 use Rattle.std.specs.Option.{option_map}
 use Rattle.std.specs.List.{slice_get}
-use Rattle.std.proofs.iter.runs.Lists.{none_some, same_Some}
+use Rattle.std.proofs.iter.runs.Lists.{none-some, same_Some}
 use Rattle.std.proofs.lemmas.Bool.{eq-eqb, ne_eqb, cond-true, cond-false, eqb-true}
 use Rattle.rows.specs.Units.{Want, SourceUnit}
 use Rattle.semantics.specs.Runs.{position}
@@ -20,14 +20,14 @@ either_right true b t = tt
 either_right false b t = t
 
 pub among-names : (us : List SourceUnit) (i : ℕ) (w : SourceUnit) → slice_get us i ≡ Some w → T (among w.name (names us))
-among-names [] i w e = absurd (none_some w e)
+among-names [] i w e = absurd (none-some w e)
 among-names (u ∷ us) zero w e =
     either_left (eqb w.name u.name) (among w.name (names us)) (subst (λ v. T (eqb v.name u.name)) (same_Some u w e) (eqb_refl u.name))
 among-names (u ∷ us) (suc i) w e = either_right (eqb w.name u.name) (among w.name (names us)) (among-names us i w e)
 
 -- the unit at i is found under its name
 pub position-nth : (us : List SourceUnit) (i : ℕ) (w : SourceUnit) → T (distinct (names us)) → slice_get us i ≡ Some w → position w.name us ≡ Some i
-position-nth [] i w t e = absurd (none_some w e)
+position-nth [] i w t e = absurd (none-some w e)
 position-nth (u ∷ us) zero w t e =
     cond-true (eqb w.name u.name) (Some 0) (option_map suc (position w.name us)) (eq-eqb w.name u.name (ap (λ v. v.name) (sym (same_Some u w e))))
 position-nth (u ∷ us) (suc i) w t e =
@@ -37,12 +37,12 @@ position-nth (u ∷ us) (suc i) w t e =
     ∙ ap (option_map suc) (position-nth us i w apart.1 e)
 
 mapped_found : {A B : Type 0} (f : A → B) (o : Option A) (b : B) → option_map f o ≡ Some b → (a : A) × (o ≡ Some a) × (f a ≡ b)
-mapped_found f None b e = absurd (none_some b e)
+mapped_found f None b e = absurd (none-some b e)
 mapped_found f (Some a) b e = (a, refl, same_Some (f a) b e)
 
 -- a unit that is found has the name
 pub position-named : (us : List SourceUnit) (n j : ℕ) (w : SourceUnit) → position n us ≡ Some j → slice_get us j ≡ Some w → w.name ≡ n
-position-named [] n j w p e = absurd (none_some j p)
+position-named [] n j w p e = absurd (none-some j p)
 position-named (u ∷ us) n j w p e = here_or_later (eqb n u.name) refl p (λ i. position-named us n i w)
   where
     here_or_later : (b : Bool) → eqb n u.name ≡ b → cond b (Some 0) (option_map suc (position n us)) ≡ Some j →
@@ -62,12 +62,12 @@ in_place (u ∷ us) w (inl e) = (0, ap Some (sym e))
 in_place (u ∷ us) w (inr h) = let i = in_place us w h in (suc i.0, i.1)
 
 pub place_in : (us : List SourceUnit) (i : ℕ) (w : SourceUnit) → slice_get us i ≡ Some w → In w us
-place_in [] i w e = absurd (none_some w e)
+place_in [] i w e = absurd (none-some w e)
 place_in (u ∷ us) zero w e = inl (sym (same_Some u w e))
 place_in (u ∷ us) (suc i) w e = inr (place_in us i w e)
 
 pub nth_below : {X : Type 0} (xs : List X) (i : ℕ) (x : X) → slice_get xs i ≡ Some x → i < length xs
-nth_below [] i x e = absurd (none_some x e)
+nth_below [] i x e = absurd (none-some x e)
 nth_below (y ∷ xs) zero x e = suc-le-suc zero-le
 nth_below (y ∷ xs) (suc i) x e = suc-le-suc (nth_below xs i x e)
 

@@ -2,7 +2,7 @@
 use Rattle.std.proofs.Common.{◌≡◌, ℕ, zero, suc, ◌-◌, ◌&&◌, T, ltb, List, [], ◌∷◌, Some, Option, sym, refl, ◌∙◌, subst}
 use Rattle.std.specs.Option.{option_map}
 use Rattle.std.specs.List.{slice_get}
-use Rattle.std.proofs.iter.runs.Lists.{none_some}
+use Rattle.std.proofs.iter.runs.Lists.{none-some}
 use Rattle.rows.specs.Units.{Expr, num, arg, word, op, if, keep, then, out, next, call, Exprs, nil, cons, count, Proc, SourceUnit, arity}
 use Rattle.rows.specs.Formed.{takes, formed, formed_args}
 use Rattle.rows.specs.Frames.{frame}
@@ -70,7 +70,7 @@ pub run_not_bad : (us : List SourceUnit) → T (all_met us us) → T (all_formed
 run_not_bad us met bodies zero room t p e vs s = tt
 run_not_bad us met bodies (suc d) room t p e vs s =
     spend_both NotBad s.left s _ (λ _. tt)
-    (λ m _. enter_both NotBad (proc_at us t) room _ _ (λ none. none_some p (sym none ∙ e)) (λ _ _ _. tt)
+    (λ m _. enter_both NotBad (proc_at us t) room _ _ (λ none. none-some p (sym none ∙ e)) (λ _ _ _. tt)
     (λ q is _. let u = both_found (slice_get us t.unit) (λ v. slice_get v.procs t.proc) q is in
     eval_not_bad u.0 q.args t.unit vs _
     (λ c n h. found_not_bad us (run d us (room - frame q)) (run_not_bad us met bodies d (room - frame q))

@@ -2,11 +2,11 @@
 use Rattle.std.proofs.Common.{◌≡◌, Bool, true, false, ◌&&◌, T, is_some as option_is_some, Some, None, Option, refl, ap}
 use Rattle.std.specs.Option.{option_map}
 use Rattle.std.proofs.lemmas.Bool.{false≢true}
-use Rattle.std.proofs.iter.runs.Lists.{none_some, same_Some}
+use Rattle.std.proofs.iter.runs.Lists.{none-some, same_Some}
 use Rattle.rows.specs.Options.{◌>>=◌}
 
 pub mapped_some : {A B : Type 0} (x : Option A) (f : A → B) (b : B) → option_map f x ≡ Some b → (a : A) × (x ≡ Some a) × (f a ≡ b)
-mapped_some None f b e = absurd (none_some b e)
+mapped_some None f b e = absurd (none-some b e)
 mapped_some (Some a) f b e = (a, refl, same_Some _ _ e)
 
 pub some_found : {A : Type 0} (x : Option A) → option_is_some x ≡ true → (a : A) × (x ≡ Some a)

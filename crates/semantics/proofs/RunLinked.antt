@@ -1,7 +1,7 @@
 -- What `run_linked` promises at its returns, from what the linker and the machine promise.
 use Rattle.std.proofs.Common.{◌≡◌, ℕ, suc, ◌+◌, ◌^◌, ◌<◌, ◌≤◌, ◌↔◌, List, length, take, Some, Ok, Err, Result, sym, refl, ap, ◌∙◌, arith, length-append}
 use Rattle.std.proofs.lemmas.Bool.{false≢true}
-use Rattle.std.proofs.iter.runs.Lists.{none_some, same_Some}
+use Rattle.std.proofs.iter.runs.Lists.{none-some, same_Some}
 use Rattle.rows.specs.Units.{SourceUnit}
 use Rattle.rows.specs.Objects.{Object}
 use Rattle.rows.specs.ObjectRows.{ObjectRows}
@@ -49,7 +49,7 @@ module _ (x : Inputs) (os : List Object) (image : List ℕ) (n : ℕ) (b : Behav
   ran_as_units o (Done k) post = ended done 0 (λ ws. refl) o k post.says
   ran_as_units o (NoCalls k) post = ended without_calls 1 (λ ws. refl) o k post.says
   ran_as_units o (NoRoom k) post = ended without_room 2 (λ ws. refl) o k post.says
-  ran_as_units o (Wild k) post = absurd (none_some b (sym (ap (λ g. halted_behaviour g m.outs) post.says.halts) ∙ halted_so image (runs x image (all_words os) 0) n b ends x.steps 3 post.says.halts))
+  ran_as_units o (Wild k) post = absurd (none-some b (sym (ap (λ g. halted_behaviour g m.outs) post.says.halts) ∙ halted_so image (runs x image (all_words os) 0) n b ends x.steps 3 post.says.halts))
   ran_as_units o (More k) post = (m.outs, begins image (runs x image (all_words os) 0) n b ends x.steps, record { counts = post.says.counts; holds = post.says.holds; rest = post.says.rest })
   ran_as_units o OutFull post = let rest = begins image (runs x image (all_words os) 0) n b ends x.steps in omega (arith, post.says, ap length rest.1, length-append m.outs rest.0)
   ran_as_units o Small post = post.small.1 refl
@@ -80,7 +80,7 @@ module _ (us : List SourceUnit) (os : List Object) (objects : ObjectsOf us os) (
       false≢true (sym (links us os objects fit).2 ∙ ap twice (sym same) ∙ refused.links.names)
   not_refused x i o Missing rows refused space b =
       let same = one_list x.objects refused.links.objects os refused.links.rows rows in
-      none_some _ (sym refused.links.missing ∙ ap link same ∙ (links us os objects fit).1)
+      none-some _ (sym refused.links.missing ∙ ap link same ∙ (links us os objects fit).1)
   not_refused x i o NoSpace rows refused space b = space refl
 
 pub enough_steps : EnoughSteps

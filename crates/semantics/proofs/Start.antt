@@ -3,10 +3,10 @@ use Rattle.std.proofs.Common.{◌≡◌, ℕ, suc, ◌+◌, ◌%◌, ◌^◌, �
 use lib.ListN.{length-replicate, replicate-append-replicate}
 use lib.Seq.{take-set-le}
 use Rattle.std.proofs.lemmas.List.{take-replicate}
-use Rattle.std.proofs.iter.runs.Lists.{none_some}
+use Rattle.std.proofs.iter.runs.Lists.{none-some}
 use Rattle.rows.specs.Units.{SourceUnit}
 use Rattle.rows.specs.Objects.{Object}
-use Rattle.machine.specs.Machine.{Machine, begin, at}
+use Rattle.machine.specs.Machine.{Machine, begin}
 use Rattle.machine.specs.Instructions.{step, steps}
 use Rattle.linker.specs.Linking.{all_words}
 use Rattle.semantics.specs.Runs.{Result, value, no_room, no_calls, bad, zeros}
@@ -83,7 +83,7 @@ shown e code shape w room tape calls (value v s) b is h = (
 )
 shown e code shape w room tape calls (no_room s) b is h = (suc h.0, rw (h.1, h.2) is)
 shown e code shape w room tape calls (no_calls s) b is h = (suc h.0, rw (h.1, h.2) is)
-shown e code shape w room tape calls bad b is h = absurd (none_some b is)
+shown e code shape w room tape calls bad b is h = absurd (none-some b is)
 
 pub ends_so : (image : List ℕ) (e : ℕ) (code : List ℕ) → image ≡ 8 ∷ e ∷ 0 ∷ 1 ∷ code → (shape : List ℕ) (w room : ℕ) (tape : List ℕ) (calls : ℕ) (r : Result) (b : Behaviour) → behaviour r ≡ Some b →
     Outcome image shape (outermost w) calls (called e w room tape calls) r → (n : ℕ) × (machine_behaviour (steps n image (begin w room tape calls)) ≡ Some b)

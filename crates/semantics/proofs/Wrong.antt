@@ -1,7 +1,7 @@
 -- Hand-made objects that are none. Those that do the wrong thing are run where they are placed: the run is over, and the call has never returned.
 use Rattle.std.proofs.Common.{◌≡◌, ℕ, zero, suc, ◌+◌, ◌^◌, ◌≤◌, Bool, true, false, not, ◌&&◌, T, eqb, List, [], ◌∷◌, length, get_or, take, Some, refl, ap, subst, arith, lit<, lit≤}
-use Rattle.std.proofs.lemmas.Bool.{false≢true, both_ways, not-true, eqb-true, eqb-false, eq-eqb, and_parts, and_from}
-use Rattle.std.proofs.iter.runs.Lists.{none_some}
+use Rattle.std.proofs.lemmas.Bool.{false≢true, both_ways, not-true, eqb-true, eq-eqb, and_parts, and_from}
+use Rattle.std.proofs.iter.runs.Lists.{none-some}
 use Rattle.rows.specs.Units.{Want, SourceUnit}
 use Rattle.rows.specs.Objects.{Object}
 use Rattle.machine.specs.Machine.{Machine, at}
@@ -73,7 +73,7 @@ refused : (u : SourceUnit) (o : Object) (code shape : List ℕ) (i place base : 
     ObjectOf u o → ⊥
 refused u o code shape i place base memory words v s k placed no-wants offers there entered result test h =
     let m = called place base memory in
-    let outcome = h.simulates code shape i 4 [] 1 nothing placed (λ e n w le wanted. absurd (none_some w (rw no-wants at wanted))) 0 0 place offers there
+    let outcome = h.simulates code shape i 4 [] 1 nothing placed (λ e n w le wanted. absurd (none-some w (rw no-wants at wanted))) 0 0 place offers there
     (caller base) 5 [] (begun words) m refl (lit< tt) entered in
     let returned = subst (Outcome code shape (caller base) 1 m) result outcome in
     is_never k code (looks_returned shape (caller base) v s m) (λ m' e. eqb-true m'.halted 0 (and_parts (eqb m'.halted 0) _ e).0) m test
@@ -117,7 +117,7 @@ wrong = record {
   name = λ h. absurd (omega (arith, h.name));
   words = λ h. absurd (omega (arith, h.words));
   wants = λ h. absurd (omega (arith, ap wanted_unit h.wants));
-  arguments = λ h. none_some _ (h.offers 0 0 tt).1;
+  arguments = λ h. none-some _ (h.offers 0 0 tt).1;
   more_offers = λ h. h.offers_only 1 0 0 refl;
   outside = λ h. h.accepted;
   twice = alone smallest offers_twice smallest_code 4 7 12 (record { addressable = lit< tt; words = refl; lies = refl }) refl tt refl refl refl;

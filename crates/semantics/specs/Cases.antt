@@ -1,8 +1,7 @@
 -- A table of worked cases: two units, objects for them made by hand, the image, and runs of both that agree.
-use Rattle.std.specs.Prelude.{◌≡◌, ℕ, Bool, true, false, T, List, [], ◌∷◌, length, Some, None, Option}
+use Rattle.std.specs.Prelude.{◌≡◌, ℕ, false, List, [], ◌∷◌, length, Some, None, Option}
 use Rattle.rows.specs.Operations.{Add}
 use Rattle.rows.specs.Units.{arg, word, op, keep, then, out, next, call, nil, cons, SourceUnit}
-use Rattle.rows.specs.Frames.{frame}
 use Rattle.rows.specs.Objects.{Object}
 use Rattle.rows.specs.UnitRows.{row_unit, UnitRow}
 use Rattle.rows.specs.ObjectRows.{row_objects, ObjectRows}

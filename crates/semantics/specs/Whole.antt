@@ -6,7 +6,7 @@ use Rattle.rows.specs.Options.{◌>>=◌}
 use Rattle.rows.specs.Units.{Want, SourceUnit}
 use Rattle.rows.specs.Formed.{takes, formed_procs}
 use Rattle.machine.specs.Machine.{Machine}
-use Rattle.semantics.specs.Runs.{State, Result, value, no_room, no_calls, bad, position}
+use Rattle.semantics.specs.Runs.{Result, value, no_room, no_calls, bad, position}
 
 abbrev pub among : ℕ → List ℕ → Bool
 among n [] = false
