@@ -1,12 +1,11 @@
 -- The loop that writes the code of procedures: what is written so far.
-use Rattle.std.proofs.Common.{◌≡◌, ℕ, ◌+◌, ◌*◌, ◌<◌, ◌≤◌, Bool, true, false, T, eqb, List, [], ◌∷◌, ◌++◌, length, take, sym, refl, ap, ◌∙◌, subst, arith}
+use Rattle.std.proofs.Common.{◌≡◌, ℕ, ◌+◌, ◌*◌, ◌<◌, ◌≤◌, Bool, true, false, T, eqb, List, [], ◌∷◌, ◌++◌, length, sym, refl, ap, ◌∙◌, arith}
 use Rattle.std.proofs.lemmas.List.{append-nil, append_assoc}
 use Rattle.rows.specs.Units.{Proc, SourceUnit}
 use Rattle.rows.specs.Formed.{formed, formed_procs}
-use Rattle.rows.specs.UnitParts.{Procedures}
 use Rattle.rows.proofs.Decided.{T-parts, T-both}
 use Rattle.rows.proofs.ProcReading.{Read, read_none, read_more, next_proc, none_over, some_over}
-use Rattle.compiler.specs.Instructions.{Instruction, code_words}
+use Rattle.compiler.specs.Instructions.{code_words}
 use Rattle.compiler.specs.Code.{size_proc, code_proc, code_procs}
 use Rattle.compiler.specs.Writing.{State, Wrote}
 use Rattle.compiler.specs.WritingExpressions.{CalleesOf}

@@ -1,9 +1,9 @@
 -- The code of an expression by its sign and its parts.
-use Rattle.std.proofs.Common.{◌≡◌, ℕ, zero, suc, ◌+◌, ◌-◌, ◌<◌, ◌≤◌, max, Bool, true, false, cond, T, ltb, List, [], ◌∷◌, ◌++◌, length, get_or, sym, refl, ap, ◌∙◌, ap₂, arith}
+use Rattle.std.proofs.Common.{◌≡◌, ℕ, zero, suc, ◌-◌, ◌<◌, ◌≤◌, max, Bool, true, false, cond, T, ltb, List, [], ◌∷◌, ◌++◌, length, get_or, sym, refl, ap, arith}
 use Rattle.std.specs.Option.{option_map}
 use Rattle.std.specs.List.{slice_get}
 use Rattle.std.proofs.lemmas.List.{append-nil, append_assoc}
-use Rattle.rows.specs.Units.{Expr, num, arg, word, op, if, keep, then, out, next, call, Exprs, nil, cons, count, Want, Proc, SourceUnit, arity}
+use Rattle.rows.specs.Units.{Expr, num, arg, word, op, if, keep, then, out, next, call, count, Want, Proc, SourceUnit, arity}
 use Rattle.rows.specs.Formed.{takes, formed, formed_args}
 use Rattle.rows.specs.Frames.{height, heights}
 use Rattle.rows.specs.Signs.{part_count, sign_of, parts}
@@ -14,7 +14,7 @@ use Rattle.rows.specs.declared.signs.Callee.{Callee}
 use Rattle.rows.proofs.Decided.{T-parts}
 use Rattle.rows.proofs.ExprParts.{op_of_sign}
 use Rattle.machine.specs.Instructions as machine
-use Rattle.compiler.specs.Instructions.{Operand, plain, in_code, of_want, Instruction, instr}
+use Rattle.compiler.specs.Instructions.{in_code, of_want, instr}
 use Rattle.compiler.specs.Code.{proc_at, callee, code_expr, code_args}
 use Rattle.compiler.specs.WritingExpressions.{callee_operand, CalleesOf, own_instruction, Simple}
 use Rattle.compiler.specs.declared.names.Callees.{Callees}

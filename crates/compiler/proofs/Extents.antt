@@ -1,5 +1,5 @@
 -- Signs told by tables: the number at the front of a row says how many words the sign takes, how many parts it has, and how much code.
-use Rattle.std.proofs.Common.{◌≡◌, ℕ, zero, suc, ◌+◌, ◌^◌, ◌<◌, ◌≤◌, List, [], ◌∷◌, ◌++◌, length, get_or, drop, sym, refl, ap, ◌∙◌, subst, arith}
+use Rattle.std.proofs.Common.{◌≡◌, ℕ, zero, suc, ◌^◌, ◌<◌, ◌≤◌, List, [], ◌∷◌, ◌++◌, length, get_or, sym, refl, ap, ◌∙◌, subst, arith}
 use Rattle.rows.specs.Operations.{number}
 use Rattle.rows.specs.Signs.{op_of, row_sign, part_count}
 use Rattle.rows.specs.RowFronts.{Begins}

@@ -2,7 +2,7 @@
 use Rattle.std.proofs.Common.{◌≡◌, ℕ, zero, suc, ◌+◌, ◌-◌, ◌*◌, ◌<◌, T, ltb, List, [], ◌∷◌, ◌++◌, map, length, get_or, take, drop, sym, refl, ap, ◌∙◌, ap₂, arith, ltb→lt}
 use borrow.Rule.Slice.PartMut.{put_mid}
 use Rattle.std.specs.List.{slice_get}
-use Rattle.std.proofs.lemmas.List.{length-take-le, length-map, get_or-take, take_at, take_more, take_all}
+use Rattle.std.proofs.lemmas.List.{length-take-le, get_or-take, take_more, take_all}
 use Rattle.rows.specs.Units.{Proc, SourceUnit}
 use Rattle.rows.specs.UnitRows.{all_below}
 use Rattle.rows.specs.ObjectRows.{row_offers}

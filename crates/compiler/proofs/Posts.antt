@@ -1,5 +1,5 @@
 -- What `compile` promises, answer by answer.
-use Rattle.std.proofs.Common.{◌≡◌, ℕ, ◌+◌, ◌*◌, ◌<◌, ◌≤◌, Bool, false, ◌⊎◌, ◌↔◌, List, length, take, drop, Decides, sym, refl, ap, ◌∙◌, inl, inr, arith}
+use Rattle.std.proofs.Common.{◌≡◌, ℕ, ◌+◌, ◌*◌, ◌<◌, ◌≤◌, Bool, false, ◌↔◌, List, length, take, drop, Decides, sym, refl, ap, ◌∙◌, inl, inr, arith}
 use Rattle.std.proofs.lemmas.List.{take_at, drop_at}
 use Rattle.rows.specs.Units.{SourceUnit}
 use Rattle.rows.specs.UnitRows.{UnitRow}
@@ -10,7 +10,7 @@ use Rattle.semantics.proofs.NotBad.{ends}
 use Rattle.semantics.proofs.Company.{company}
 use Rattle.compiler.specs.Code.{object}
 use Rattle.compiler.specs.ObjectWriting.{ObjectWritten}
-use Rattle.compiler.specs.Says.{CompiledObject, CompiledSays, TooShort, CompiledPost}
+use Rattle.compiler.specs.Says.{CompiledSays, TooShort, CompiledPost}
 use Rattle.compiler.specs.declared.Compiled.{Compiled}
 use Rattle.compiler.specs.declared.Compiled.TheVariants.{Object, NoUnit, Short}
 use Rattle.compiler.proofs.Simulation.{simulates_expressions}

@@ -1,15 +1,15 @@
 -- The code of one procedure as it is written: what stands before its body, the body, and what stands behind it; the frame is filled in when it is known.
-use Rattle.std.proofs.Common.{◌≡◌, ℕ, ◌+◌, ◌*◌, ◌≤◌, T, List, [], ◌∷◌, ◌++◌, length, get_or, drop, set, sym, refl, ap, ◌∙◌, subst, ap₂, arith, length-append, length-set}
-use Rattle.std.proofs.lemmas.List.{append_assoc, take_rest, length-drop}
+use Rattle.std.proofs.Common.{◌≡◌, ℕ, ◌+◌, ◌*◌, ◌≤◌, T, List, [], ◌∷◌, ◌++◌, length, get_or, drop, sym, refl, ap, ◌∙◌, subst, ap₂, arith, length-append, length-set}
+use Rattle.std.proofs.lemmas.List.{take_rest, length-drop}
 use Rattle.rows.specs.Units.{Expr, Proc, SourceUnit}
 use Rattle.rows.specs.Formed.{formed}
-use Rattle.rows.specs.Frames.{height, frame}
+use Rattle.rows.specs.Frames.{frame}
 use Rattle.rows.specs.UnitRows.{row_expr}
 use Rattle.rows.specs.Bodies.{outline, Right}
 use Rattle.rows.specs.Objects.{Fit}
 use Rattle.rows.proofs.ProcReading.{from, first_word}
 use Rattle.machine.specs.Instructions.{SetFrame, Return, Reserve, Release, Count}
-use Rattle.compiler.specs.Instructions.{plain, Instruction, instr, code_words, fit_operand}
+use Rattle.compiler.specs.Instructions.{plain, instr, fit_operand}
 use Rattle.compiler.specs.Code.{code_expr, code_proc}
 use Rattle.compiler.specs.Writing.{State, Wrote, WroteOne}
 use Rattle.compiler.specs.WritingExpressions.{CalleesOf, WroteExpr}

@@ -1,6 +1,6 @@
 -- The theorem on expressions, as its statement has it.
 use Rattle.std.proofs.Common.{ℕ, ◌+◌, List, [], ◌∷◌, sym, subst, add-zero, arith}
-use Rattle.machine.specs.Machine.{Machine, at}
+use Rattle.machine.specs.Machine.{Machine}
 use Rattle.semantics.specs.Runs.{State, Result, value, no_room, no_calls, bad, eval}
 use Rattle.compiler.specs.Code.{size, code_expr}
 use Rattle.compiler.specs.Simulation.{Worked, Comes, SimulatesExpressions}

@@ -1,14 +1,13 @@
 -- How many arguments procedures take and where they begin, found one after the other.
-use Rattle.std.proofs.Common.{◌≡◌, ℕ, zero, suc, ◌+◌, ◌*◌, ◌<◌, ◌≤◌, Bool, true, false, eqb, ◌≢◌, List, [], ◌∷◌, ◌++◌, map, length, get_or, take, drop, set, Some, None, sym, refl, ap, ◌∙◌, ap₂, arith, length-append, get_or-set_other, get_or-set_same, below_more}
-use Rattle.std.proofs.lemmas.List.{take_all, take_rest, length-drop}
-use Rattle.rows.specs.Units.{Expr, Proc}
-use Rattle.rows.specs.UnitRows.{row_expr, row_procs}
-use Rattle.rows.specs.RowFronts.{FrontSays}
+use Rattle.std.proofs.Common.{◌≡◌, ℕ, zero, suc, ◌+◌, ◌*◌, ◌<◌, ◌≤◌, Bool, true, false, eqb, ◌≢◌, List, [], ◌∷◌, ◌++◌, map, length, get_or, take, set, None, sym, refl, ap, ◌∙◌, arith, length-append, get_or-set_other, get_or-set_same, below_more}
+use Rattle.std.proofs.lemmas.List.{take_all, take_rest}
+use Rattle.rows.specs.Units.{Proc}
+use Rattle.rows.specs.UnitRows.{row_expr}
 use Rattle.rows.specs.Bodies.{Any}
-use Rattle.rows.specs.UnitParts.{Procedures, FewArgs}
+use Rattle.rows.specs.UnitParts.{FewArgs}
 use Rattle.rows.proofs.ProcReading.{Read, read_none, read_more, from, first_word, nothing_left, wrong_args, wrong_body, arities_more, none_over, some_over}
-use Rattle.compiler.specs.Code.{size, size_proc, proc_at}
-use Rattle.compiler.specs.Measuring.{Sized, SizeSays, Starts, Placed, PlaceSays}
+use Rattle.compiler.specs.Code.{size_proc, proc_at}
+use Rattle.compiler.specs.Measuring.{Sized, SizeSays, PlaceSays}
 use Rattle.compiler.proofs.Lengths.{row_there, size_row}
 
 -- one procedure more leaves the others where they are, and begins behind them

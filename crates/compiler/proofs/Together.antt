@@ -1,5 +1,5 @@
 -- Units compiled one by one and run together.
-use Rattle.std.proofs.Common.{◌≡◌, ℕ, ◌≤◌, T, List, [], ◌∷◌, map, length, sym, refl, ap, ◌∙◌, subst, arith}
+use Rattle.std.proofs.Common.{◌≡◌, T, List, [], ◌∷◌, length, sym, refl, subst, arith}
 use Rattle.rows.specs.Units.{SourceUnit}
 use Rattle.rows.specs.ObjectRows.{row_objects, sound, all_sound, ObjectRows}
 use Rattle.semantics.specs.Theorems.{ObjectsOf, none, more}

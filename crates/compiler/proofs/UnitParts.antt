@@ -1,11 +1,10 @@
 -- A unit whose row is laid out: its bodies are right exactly if the row says it, and then all is ready for its object's row.
-use Rattle.std.proofs.Common.{◌≡◌, ℕ, ◌+◌, ◌-◌, ◌*◌, ◌≤◌, true, T, List, [], ◌∷◌, ◌++◌, map, length, get_or, take, sym, refl, ap, ◌∙◌, subst, arith, length-append}
+use Rattle.std.proofs.Common.{◌≡◌, ℕ, ◌+◌, ◌*◌, ◌≤◌, true, T, List, [], ◌∷◌, length, get_or, take, sym, refl, ap, ◌∙◌, subst, arith, length-append}
 use Rattle.std.specs.List.{AllByRecursion as All}
 use Rattle.std.proofs.lemmas.List.{take_all, length-map}
 use Rattle.rows.specs.Units.{Proc, SourceUnit}
 use Rattle.rows.specs.Formed.{formed_procs}
 use Rattle.rows.specs.UnitRows.{UnitRow}
-use Rattle.rows.specs.UnitViews.{ViewOf}
 use Rattle.rows.specs.UnitParts.{Opened, Procedures, FewArgs, BodyRight, AritySays}
 use Rattle.rows.specs.WantRows.{wants_said}
 use Rattle.rows.specs.Bodies.{outlined}
@@ -16,7 +15,7 @@ use Rattle.compiler.specs.Instructions.{code_words, code_fits}
 use Rattle.compiler.specs.Code.{code_procs}
 use Rattle.compiler.specs.WritingExpressions.{CalleesOf}
 use Rattle.compiler.specs.WritingProcedures.{RightProc, WroteCode}
-use Rattle.compiler.specs.ObjectWriting.{object_size, Ready, ObjectWritten}
+use Rattle.compiler.specs.ObjectWriting.{object_size, Ready}
 use Rattle.compiler.specs.Measuring.{Placed}
 use Rattle.compiler.specs.UnitWriting.{LaidOut}
 use Rattle.compiler.specs.declared.names.Callees.{Callees}

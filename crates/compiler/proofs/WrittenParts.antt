@@ -1,20 +1,20 @@
 -- The code of expressions as it is written: parts one behind the other, and then what the sign adds.
-use Rattle.std.proofs.Common.{◌≡◌, ℕ, suc, ◌+◌, ◌*◌, ◌<◌, ◌≤◌, max, Bool, true, false, ◌&&◌, T, List, [], ◌∷◌, ◌++◌, length, drop, set, Some, None, Option, sym, refl, ap, ◌∙◌, subst, ap₂, arith, length-append, length-set}
+use Rattle.std.proofs.Common.{◌≡◌, ℕ, suc, ◌+◌, ◌≤◌, max, true, T, List, [], ◌∷◌, ◌++◌, length, drop, set, Some, None, Option, sym, refl, ap, ◌∙◌, subst, ap₂, arith, length-append, length-set}
 use Rattle.std.proofs.lemmas.List.{append-nil, append_assoc, length-drop}
-use Rattle.rows.specs.Units.{Expr, if, then, Exprs, nil, cons, count, SourceUnit}
+use Rattle.rows.specs.Units.{Expr, if, Exprs, nil, cons, count, SourceUnit}
 use Rattle.rows.specs.Formed.{formed, formed_args}
 use Rattle.rows.specs.Frames.{height, heights}
 use Rattle.rows.specs.UnitRows.{row_expr, row_exprs}
-use Rattle.rows.specs.Signs.{row_sign, part_count, sign_of, parts, SignSays}
+use Rattle.rows.specs.Signs.{row_sign, part_count, sign_of, parts}
 use Rattle.rows.specs.RowFronts.{Begins}
 use Rattle.rows.specs.Bodies.{outline, allowed, Right, RightParts}
 use Rattle.rows.specs.declared.signs.Sign.{Sign}
 use Rattle.rows.specs.declared.signs.Sign.TheVariants.{If, Then}
 use Rattle.rows.proofs.Decided.{T-parts, T-both, true_T}
-use Rattle.rows.proofs.ExprParts.{sign_some, node, Made, made}
+use Rattle.rows.proofs.ExprParts.{sign_some, node, made}
 use Rattle.rows.proofs.OneExpr.{one_expr}
 use Rattle.rows.proofs.RightParts.{formed_parts, parts_right, node_right}
-use Rattle.rows.proofs.BodyReading.{sign_read, row_node, too_deep, no_sign, not_allowed}
+use Rattle.rows.proofs.BodyReading.{sign_read, row_node}
 use Rattle.rows.specs.Objects.{Fit}
 use Rattle.machine.specs.Instructions as machine
 use Rattle.compiler.specs.Instructions.{plain, in_code, Instruction, instr, code_words, fit_operand}

@@ -1,5 +1,5 @@
 -- What writing the code of expressions promises.
-use Rattle.std.specs.Prelude.{◌≡◌, ℕ, ◌+◌, ◌-◌, ◌≤◌, max, cond, T, List, [], ◌∷◌, ◌++◌, length, Some, None, Option, ◌≢◌, nat_lt, slice_index}
+use Rattle.std.specs.Prelude.{◌≡◌, ℕ, ◌-◌, max, cond, T, List, [], ◌∷◌, ◌++◌, length, Some, None, Option, ◌≢◌, nat_lt, slice_index}
 use Rattle.rows.specs.Operations.{number}
 use Rattle.rows.specs.Units.{Expr, if, then, Exprs, nil, cons, SourceUnit}
 use Rattle.rows.specs.Formed.{formed, formed_args}

@@ -9,14 +9,14 @@ loop-pending-init c = none_counted c.args.row.now
 pub returns-then-pending-left : goal.returns-then-pending-left
 returns-then-pending-left c = too_few _ _ _ _ c.loop-pending.invariant (omega arith)
 
-pub returns-in-err-taken : goal.returns-in-err-taken
-returns-in-err-taken c = rw c.from-residual.ensures (none_sized _ _ _ (c.loop-pending.pending - 1) _ (omega arith) c.loop-pending.invariant c.in-err-taken.ensures)
+pub returns-in_err-taken : goal.returns-in_err-taken
+returns-in_err-taken c = rw c.from_residual.ensures (none_sized _ _ _ (c.loop-pending.pending - 1) _ (omega arith) c.loop-pending.invariant c.in_err-taken.ensures)
 
 pub loop-pending-preserved : goal.loop-pending-preserved
-loop-pending-preserved c = let e = c.in-ok-taken.ensures in counted_more _ _ _ _ _ (omega arith) c.loop-pending.invariant _ _ _ _ _ e.begins e.asked e.own (take_rest c.loop-pending.left.now c.in-ok-taken.taken)
+loop-pending-preserved c = let e = c.in_ok-taken.ensures in counted_more _ _ _ _ _ (omega arith) c.loop-pending.invariant _ _ _ _ _ e.begins e.asked e.own (take_rest c.loop-pending.left.now c.in_ok-taken.taken)
 
-pub overflow-add-size : goal.overflow-add-size
-overflow-add-size c = omega (arith, (loop-pending-preserved c).small)
+pub overflow_add-size : goal.overflow_add-size
+overflow_add-size c = omega (arith, (loop-pending-preserved c).small)
 
 pub returns : goal.returns
 returns c = counted_all _ _ _ _ (omega arith) c.loop-pending.invariant

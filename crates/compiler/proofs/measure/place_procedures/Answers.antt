@@ -6,8 +6,8 @@ use Rattle.compiler.proofs.measure.place_procedures.Goals as goal
 pub loop-number-init : goal.loop-number-init
 loop-number-init c = none_placed _ _ _
 
-pub returns-in-default : goal.returns-in-default
-returns-in-default c = no_proc _ _ _ _ _ _ _ c.loop-number.invariant c.loop-number-test.true (search rules)
+pub returns-in_default : goal.returns-in_default
+returns-in_default c = no_proc _ _ _ _ _ _ _ c.loop-number.invariant c.loop-number-test.true (search rules)
 
 pub loop-number-preserved : goal.loop-number-preserved
 loop-number-preserved c = one_placed _ _ _ _ _ _ _ c.loop-number.invariant c.loop-number-test.true _ _ (search rules) (search rules) c.in-Some.ensures (search rules) (search rules)
@@ -15,14 +15,14 @@ loop-number-preserved c = one_placed _ _ _ _ _ _ _ c.loop-number.invariant c.loo
 pub returns : goal.returns
 returns c = all_placed _ _ _ _ _ _ _ _ c.loop-number.invariant (omega arith) (search rules) (search rules)
 
-pub returns-then-args-gt-MOST-ARGS : goal.returns-then-args-gt-MOST-ARGS
-returns-then-args-gt-MOST-ARGS c = many_args _ _ c.loop-number.arities c.loop-number.starts _ _ _ c.loop-number.invariant c.loop-number-test.true c.if-args-gt-MOST-ARGS.true
+pub returns-then-args-gt-MOST_ARGS : goal.returns-then-args-gt-MOST_ARGS
+returns-then-args-gt-MOST_ARGS c = many_args _ _ c.loop-number.arities c.loop-number.starts _ _ _ c.loop-number.invariant c.loop-number-test.true c.if-args-gt-MOST_ARGS.true
 
-pub returns-in-default-body-size : goal.returns-in-default-body-size
-returns-in-default-body-size c = no_body _ _ c.loop-number.arities c.loop-number.starts _ _ _ c.loop-number.invariant c.loop-number-test.true (search rules) c.in-default-body-size.ensures
+pub returns-in_default-body_size : goal.returns-in_default-body_size
+returns-in_default-body_size c = no_body _ _ c.loop-number.arities c.loop-number.starts _ _ _ c.loop-number.invariant c.loop-number-test.true (search rules) c.in_default-body_size.ensures
 
-pub overflow-add-at : goal.overflow-add-at
-overflow-add-at c = omega (arith, simp (take_rest, length-drop) at (sized_small _ _ _ c.in-Some.ensures), c.loop-number.invariant.read.shorter, c.requires.short)
+pub overflow_add-at : goal.overflow_add-at
+overflow_add-at c = omega (arith, simp (take_rest, length-drop) at (sized_small _ _ _ c.in-Some.ensures), c.loop-number.invariant.read.shorter, c.requires.short)
 
-pub overflow-add-at-in-loop-number : goal.overflow-add-at-in-loop-number
-overflow-add-at-in-loop-number c = omega (arith, simp (take_rest, length-drop) at (sized_small _ _ _ c.in-Some.ensures), c.loop-number.invariant.small, c.loop-number.invariant.read.shorter, c.requires.short)
+pub overflow_add-at-in-loop-number : goal.overflow_add-at-in-loop-number
+overflow_add-at-in-loop-number c = omega (arith, simp (take_rest, length-drop) at (sized_small _ _ _ c.in-Some.ensures), c.loop-number.invariant.small, c.loop-number.invariant.read.shorter, c.requires.short)

@@ -1,4 +1,4 @@
-use Rattle.std.proofs.Common.{arith, rules}
+use Rattle.std.proofs.Common.{arith}
 use Rattle.compiler.specs.Writing.{state}
 use Rattle.compiler.proofs.ProcedureParts.{space_kept}
 use Rattle.compiler.proofs.Assembling.{none_assembled, one_assembled, wrong_proc, all_assembled}
@@ -17,4 +17,4 @@ pub loop-number-preserved : goal.loop-number-preserved
 loop-number-preserved c = one_assembled _ _ _ _ _ _ c.loop-number.invariant c.if-not-procedure.ensures
 
 pub returns : goal.returns
-returns c = all_assembled _ _ _ c.args.view.now.count _ _ c.is-empty.result c.loop-number.invariant (omega arith) c.is-empty.ensures
+returns c = all_assembled _ _ _ c.args.view.now.count _ _ c.is_empty.result c.loop-number.invariant (omega arith) c.is_empty.ensures

@@ -1,4 +1,4 @@
-use Rattle.std.proofs.Common.{◌≡◌, ◌+◌, length, set, sym, refl, ap, ◌∙◌, ap₂, arith, length-set}
+use Rattle.std.proofs.Common.{◌+◌, length, set, sym, refl, ap, ◌∙◌, ap₂, arith, length-set}
 use Rattle.compiler.proofs.Lending.{wrote_plain, wrote_fitted}
 use Rattle.compiler.proofs.writer.Writer.write.Goals as goal
 

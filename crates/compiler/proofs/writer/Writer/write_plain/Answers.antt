@@ -1,4 +1,4 @@
-use Rattle.std.proofs.Common.{◌≡◌, length, refl, ap, ◌∙◌, arith, length-set}
+use Rattle.std.proofs.Common.{length, refl, ap, ◌∙◌, arith, length-set}
 use Rattle.compiler.proofs.Lending.{wrote_plain}
 use Rattle.compiler.proofs.writer.Writer.write_plain.Goals as goal
 
