@@ -8,6 +8,7 @@ import re
 
 NAMES = """
 Acted-alone ActedAlone
+All-apart all_apart
 All-do AllDo
 All-sane AllSane
 All-settled AllSettled
@@ -36,6 +37,7 @@ Enough-steps EnoughSteps
 Expression-placed ExpressionPlaced
 Few-args FewArgs
 Few-enough FewEnough
+First-want FirstWant
 Fit-together FitTogether
 Fits-in-any-order FitsInAnyOrder
 Fits-space FitsSpace
@@ -60,6 +62,7 @@ No-expr NoExpr
 No-objects SaysNoObjects
 No-parts NoParts
 No-unit SaysNoUnit
+Node-row NodeRow
 Not-for-want NotForWant
 Not-joined IsNotJoined
 Not-linked IsNotLinked
@@ -84,6 +87,7 @@ Right-parts-here RightPartsHere
 Right-proc RightProc
 Runs-match RunsMatch
 Same-unit SameUnit
+Same-words SameWords
 Says-the-same SaysTheSame
 Simulates-expressions SimulatesExpressions
 Simulates-unit SimulatesUnit
@@ -113,6 +117,7 @@ Wrote-parts WroteParts
 Wrote-proc WroteProc
 Wrote-procs WroteProcs
 Wrote_code WroteCode
+a-b a_b
 above-words above_words
 act-at act_at
 act-at-goes-on act_at_goes_on
@@ -137,6 +142,7 @@ answer-number answer_number
 any-company any_company
 arg-does arg_does
 args-do args_do
+args-is args_is
 args-sane args_sane
 args-small args_small
 arities-more arities_more
@@ -193,6 +199,7 @@ branch-written branch_written
 budgets-with budgets_with
 by-room by_room
 byte-none-left byte_none_left
+c-ab c_ab
 call-does call_does
 call-in call_in
 call-of call_of
@@ -251,6 +258,7 @@ depth-bounds-nothing depth_bounds_nothing
 depth-parts depth_parts
 drop-behind drop_behind
 drop-further drop_further
+e-es e_es
 each-by-parts each_by_parts
 either-right either_right
 end-alike end_alike
@@ -307,16 +315,20 @@ fits-in-code fits_in_code
 fits-inside fits_inside
 fits-is fits_is
 fits-part fits_part
+fits-row fits_row
 fits-runs fits_runs
 fits-small fits_small
 fits-space fits_space
 fits-threefold fits_threefold
 fitted-code fitted_code
 fitted-codes fitted_codes
+fitted-word fitted_word
 flat-at flat_at
+for-arity for_arity
 for-code for_code
 for-fits for_fits
 for-object for_object
+for-start for_start
 for-work for_work
 formed-alike formed_alike
 formed-args formed_args
@@ -363,6 +375,7 @@ heights-row heights_row
 heights-small heights_small
 here-inside here_inside
 here-or-later here_or_later
+here-r here_r
 here-split here_split
 here-words here_words
 if-does if_does
@@ -382,8 +395,11 @@ in-more in_more
 in-second in_second
 instruction-at instruction_at
 instruction-of instruction_of
+is-arities is_arities
 is-blank is_blank
+is-opcode is_opcode
 is-some-then is_some_then
+is-wants is_wants
 item-row item_row
 joined-again joined_again
 jump-unmoved jump_unmoved
@@ -461,6 +477,7 @@ moves-on moves_on
 named-first named_first
 named-found named_found
 named-is named_is
+named-laid named_laid
 named-not-here named_not_here
 named-nowhere named_nowhere
 names-all names_all
@@ -484,6 +501,7 @@ no-right-body no_right_body
 no-sequence no_sequence
 no-two no_two
 no-unit no_unit
+no-wants no_wants
 node-right node_right
 none-arm none_arm
 none-assembled none_assembled
@@ -493,9 +511,9 @@ none-placed none_placed
 none-since none_since
 none-sized none_sized
 none-skipped none_skipped
-none-some none_some
 not-allowed not_allowed
 not-and not_and
+not-both not_both
 not-for-calls not_for_calls
 not-for-room not_for_room
 not-met-here not_met_here
@@ -539,6 +557,7 @@ offer-words-of offer_words_of
 offered-from offered_from
 offered-in offered_in
 offered-inside offered_inside
+offered-place offered_place
 offers-all offers_all
 offers-begin offers_begin
 offers-cut offers_cut
@@ -666,6 +685,7 @@ procs-inside procs_inside
 procs-is procs_is
 procs-same procs_same
 procs-sane procs_sane
+programs-end programs_end
 programs-seen programs_seen
 push-comes push_comes
 pushes-3 pushes_3
@@ -714,7 +734,9 @@ runs-no-more runs_no_more
 runs-to-end runs_to_end
 same-err same_err
 same-frame same_frame
+same-k same_k
 same-keeps same_keeps
+same-l same_l
 same-length₂ same_length₂
 same-list same_list
 same-list-refl same_list_refl
@@ -764,6 +786,8 @@ small-wants small_wants
 smallest-code smallest_code
 smallest-object smallest_object
 smallest-object-is-one smallest_object_is_one
+so-far' so_far'
+so-far′ so_far'
 some-arm some_arm
 some-found some_found
 some-injective some_injective
@@ -783,6 +807,7 @@ stale-size stale_size
 stands-in stands_in
 stands-in-names stands_in-names
 start-callable start_callable
+starts-are starts_are
 stays-done stays_done
 step-acts step_acts
 step-goes-on step_goes_on
@@ -823,6 +848,7 @@ to-come to_come
 to-five to_five
 to-four to_four
 to-outline to_outline
+to-second to_second
 to-six to_six
 too-deep too_deep
 too-short-for-sign too_short_for_sign
@@ -831,6 +857,7 @@ top-is top_is
 true-T true_T
 true-is true_is
 turned-once turned_once
+two-names two_names
 unary-written unary_written
 unit-at unit_at
 unit-keeps unit_keeps
@@ -869,6 +896,7 @@ wants-in wants_in
 wants-keep wants_keep
 wants-met wants_met
 wants-part wants_part
+wants-row wants_row
 wants-runs wants_runs
 wants-said wants_said
 wants-threefold wants_threefold

@@ -131,9 +131,9 @@ no_fit_row a (in_words n) e = absurd (let z : ◌≡◌ {A = ℕ} 0 1 = cc in om
 no_fit_row a (of_want n) e = absurd (let z : ◌≡◌ {A = ℕ} 0 1 = cc in omega arith)
 
 -- one instruction, whose words are set
-module _ (o : Opcode) (x : Operand) (s s' : State) (v w : ℕ) (is-opcode : v ≡ opcode_number o) (is_IsWord : w ≡ operand_word x) (inside : s.at + 2 ≤ length s.code) (at : s'.at ≡ s.at + 2) (code : s'.code ≡ set (set s.code s.at v) (s.at + 1) w) where
+module _ (o : Opcode) (x : Operand) (s s' : State) (v w : ℕ) (is_opcode : v ≡ opcode_number o) (is_IsWord : w ≡ operand_word x) (inside : s.at + 2 ≤ length s.code) (at : s'.at ≡ s.at + 2) (code : s'.code ≡ set (set s.code s.at v) (s.at + 1) w) where
   code_set : take s'.at s'.code ≡ take s.at s.code ++ code_words (instr o x ∷ [])
-  code_set = ap₂ take at code ∙ (take_two_set s.at v w s.code inside ∙ ap₂ (λ y z. take s.at s.code ++ (y ∷ z ∷ [])) is-opcode is_IsWord)
+  code_set = ap₂ take at code ∙ (take_two_set s.at v w s.code inside ∙ ap₂ (λ y z. take s.at s.code ++ (y ∷ z ∷ [])) is_opcode is_IsWord)
 
   -- with no fit
   pub wrote_plain : fit_of x ≡ None → s'.fitted ≡ s.fitted → s'.fits ≡ s.fits → Wrote (instr o x ∷ []) s s'

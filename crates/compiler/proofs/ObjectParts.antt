@@ -48,10 +48,10 @@ module _ (v : UnitView) (arities starts code fits : List ℕ) (wants : ℕ) wher
           let want_count : wants ≡ length u.wants = count ∙ ap (λ s. length (wants_said s)) r.view.wants ∙ ap (λ ws. length ws) (read_again u.wants) in
           let offer_count : length v.offers.now ≡ length (offers_of u u.offers) = ap length r.view.offers ∙ sym (length-offers_of u u.offers) in
           let fit_count : length fits / 3 ≡ length (code_fits 0 (code_unit u)) = omega (arith, ap length r.fits_are, length-row_fits (code_fits 0 (code_unit u))) in
-          let wants-row = r.view.wants in
+          let wants_row = r.view.wants in
           let offers_row : offer_words arities starts v.offers.now ≡ row_offers (offers_of u u.offers) = ap (offer_words arities starts) r.view.offers ∙ offer_words_of u arities starts u.offers r.arity r.start r.offers in
           let code_row = r.code_is in
-          let fits-row = r.fits_are in
+          let fits_row = r.fits_are in
           cc
 
   pub object_written : (old new : List ℕ) (n : ℕ) → First all_words old new n → wants ≡ length (wants_said v.wants.now) → (u : SourceUnit) → Ready u v arities starts code fits → ObjectWritten u old new n

@@ -29,8 +29,8 @@ read_some p d s s' h w = omega (arith, row_there w.expr, simp length-append at (
 
 -- no right body stands behind the number of arguments
 pub no_right_body : (o : SourceUnit) (k : ℕ) (row behind : List ℕ) → k ≡ get_or row 0 0 → behind ≡ from 1 row → ((e : Expr) (rest : List ℕ) → Right o k 256 e → behind ≡ row_expr e ++ rest → ⊥) → (q : Proc) (rest : List ℕ) → RightProc o q → row ≡ q.args ∷ (row_expr q.body ++ rest) → ⊥
-no_right_body o k row behind args-is is none q rest r e =
-    none q.body rest (subst (λ n. Right o n 256 q.body) (sym (args-is ∙ ap (λ xs. get_or xs 0 0) e)) r.body) (is ∙ (take_rest row 1 ∙ ap (drop 1) e))
+no_right_body o k row behind args_is is none q rest r e =
+    none q.body rest (subst (λ n. Right o n 256 q.body) (sym (args_is ∙ ap (λ xs. get_or xs 0 0) e)) r.body) (is ∙ (take_rest row 1 ∙ ap (drop 1) e))
 
 pub space_kept : (s s' : State) → SpaceProcs s → GoneProcs s s' → SpaceProcs s'
 space_kept s s' space gone = record { for_code = omega (arith, space.for_code, gone.for_code, gone.code); for_fits = omega (arith, space.for_fits, gone.for_fits, gone.fits); words = omega (arith, space.words, gone.code) }
@@ -60,7 +60,7 @@ module _ (p : Names) (s s₀ s₁ s₂ s₃ s₄ : State) (h : ℕ) (space : Spa
 module _ (p : Names) (s s₀ s₁ s₂ s₃ s₄ s₆ s₇ : State) (h fr : ℕ) (space : SpaceProcs s) (long : 1 ≤ length s.row) (begun : s₀ ≡ reading s (from 1 s.row)) (body : WroteExpr p 256 s₃ s₄ h)
     (counts : WroteOne 0 (instr Count (plain 0)) s₀ s₁) (reserves : WroteOne 0 (instr Reserve (plain 0)) s₁ s₂) (sets : WroteOne 0 (instr SetFrame (plain p.scope.args)) s₂ s₃)
     (releases : WroteOne 0 (instr Release (plain fr)) (changed s₄ (s.at + 3) fr) s₆) (returns : WroteOne 0 (instr Return (plain p.scope.args)) s₆ s₇)
-    (args-is : p.scope.args ≡ get_or s.row 0 0) (few : p.scope.args ≤ 8) (frame_is : fr ≡ 4 + p.scope.args + h) where
+    (args_is : p.scope.args ≡ get_or s.row 0 0) (few : p.scope.args ≤ 8) (frame_is : fr ≡ 4 + p.scope.args + h) where
   inside : s.at ≤ length s.code
   inside = omega (arith, space.for_code)
 
@@ -125,7 +125,7 @@ module _ (p : Names) (s s₀ s₁ s₂ s₃ s₄ s₆ s₇ : State) (h fr : ℕ)
   procedure_written = record {
     proc = q;
     right = record { few = few; body = body.right };
-    row = first_word s.row long ∙ ap₂ (λ a xs. a ∷ xs) (sym args-is) (sym (body_row p s s₀ s₁ s₂ s₃ s₄ h space long begun body counts reserves sets) ∙ (body.row ∙ ap (λ xs. row_expr body.expr ++ xs) (sym last_row)));
+    row = first_word s.row long ∙ ap₂ (λ a xs. a ∷ xs) (sym args_is) (sym (body_row p s s₀ s₁ s₂ s₃ s₄ h space long begun body counts reserves sets) ∙ (body.row ∙ ap (λ xs. row_expr body.expr ++ xs) (sym last_row)));
     gone = gone;
     writes = procedure_code;
   }

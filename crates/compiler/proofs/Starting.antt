@@ -53,10 +53,10 @@ module _ (row left arities starts : List ℕ) (i at n : ℕ) (h : Placing row le
 
   pub one_placed : (taken m : ℕ) → 1 ≤ length left → get_or left 0 0 ≤ 8 → Sized (from 1 left) taken m → i < length arities → i < length starts →
       Placing row (from taken (from 1 left)) (set arities i (get_or left 0 0)) (set starts i at) (i + 1) (at + (m + 10))
-  one_placed taken m long few sized for-arity for-start = record {
+  one_placed taken m long few sized for_arity for_start = record {
     procs = h.procs ++ p ∷ [];
     read = read_more FewArgs p (from taken (from 1 left)) h.read says few;
-    arity = arities_more h.procs p arities i (get_or left 0 0) h.arity refl for-arity;
+    arity = arities_more h.procs p arities i (get_or left 0 0) h.arity refl for_arity;
     next_at = omega (arith, h.next_at, sized.size, proc_at_behind h.procs p i (sym h.read.count));
     start = below_more _ _
         (λ k less. let ne : k ≢ i = omega arith in rw get_or-set_other (h.start k less ∙ sym (proc_at_before h.procs p k (omega (arith, h.read.count)))))

@@ -1,6 +1,6 @@
 -- A unit whose row is laid out: its bodies are right exactly if the row says it, and then all is ready for its object's row.
 use Rattle.std.proofs.Common.{◌≡◌, ℕ, ◌+◌, ◌*◌, ◌≤◌, true, T, List, [], ◌∷◌, length, get_or, take, sym, refl, ap, ◌∙◌, subst, arith, length-append}
-use Rattle.std.specs.List.{AllByRecursion as All}
+use Rattle.std.specs.List.{AllByRecursion}
 use Rattle.std.proofs.lemmas.List.{take_all, length-map}
 use Rattle.rows.specs.Units.{Proc, SourceUnit}
 use Rattle.rows.specs.Formed.{formed_procs}
@@ -23,11 +23,11 @@ use Rattle.compiler.proofs.Weights.{short_row}
 use Rattle.compiler.proofs.ObjectParts.{ready_size}
 
 -- few arguments and right bodies together, and apart
-all_right : (o : SourceUnit) (qs : List Proc) → All FewArgs qs → All (BodyRight o) qs → All (RightProc o) qs
+all_right : (o : SourceUnit) (qs : List Proc) → AllByRecursion FewArgs qs → AllByRecursion (BodyRight o) qs → AllByRecursion (RightProc o) qs
 all_right o [] few right = tt
 all_right o (q ∷ qs) few right = (record { few = few.0; body = right.0 }, all_right o qs few.1 right.1)
 
-all_bodies : (o : SourceUnit) (qs : List Proc) → All (RightProc o) qs → All (BodyRight o) qs
+all_bodies : (o : SourceUnit) (qs : List Proc) → AllByRecursion (RightProc o) qs → AllByRecursion (BodyRight o) qs
 all_bodies o [] right = tt
 all_bodies o (q ∷ qs) right = (right.0.body, all_bodies o qs right.1)
 
@@ -52,10 +52,10 @@ module _ (s : List ℕ) (v : UnitView) (arities starts : List ℕ) (laid : LaidO
   no_unit none = bodies_wrong s v laid.opened.cut v.count v.count arities refl refl counted (λ h. wrong h.0 h.1)
     where
       wrong : (qs : List Proc) → Procedures (BodyRight o) v.count v.procs.now qs → ⊥
-      wrong qs right = none qs (record { count = right.count; says = right.says; each = all_right o qs (subst (All FewArgs) (one_list laid.placed.procs qs laid.placed.says right) laid.placed.says.each) right.each })
+      wrong qs right = none qs (record { count = right.count; says = right.says; each = all_right o qs (subst (AllByRecursion FewArgs) (one_list laid.placed.procs qs laid.placed.says right) laid.placed.says.each) right.each })
 
   -- they are, and their code is written
-  module _ (p : Callees) (c f : List ℕ) (k l k' l' : ℕ) (wants_is : p.wants ≡ length (wants_said v.wants.now)) (starts-are : p.starts.now ≡ starts) (w : WroteCode o p v.count v.procs.now c f k l) (same-k : k' ≡ k) (same-l : l' ≡ l) where
+  module _ (p : Callees) (c f : List ℕ) (k l k' l' : ℕ) (wants_is : p.wants ≡ length (wants_said v.wants.now)) (starts_are : p.starts.now ≡ starts) (w : WroteCode o p v.count v.procs.now c f k l) (same_k : k' ≡ k) (same_l : l' ≡ l) where
     abbrev pub u : SourceUnit
     u = unit_of v laid.placed.procs
 
@@ -67,7 +67,7 @@ module _ (s : List ℕ) (v : UnitView) (arities starts : List ℕ) (laid : LaidO
         (record { count = w.right.count; says = w.right.says; each = all_bodies o w.procs w.right.each }) laid.opened.wants laid.opened.offers
 
     callees : CalleesOf p u
-    callees = record { wants = wants_is; starts = λ n less. ap (λ xs. get_or xs n 0) starts-are ∙ laid.placed.start n less }
+    callees = record { wants = wants_is; starts = λ n less. ap (λ xs. get_or xs n 0) starts_are ∙ laid.placed.start n less }
 
     well_formed : T (formed_procs u w.procs)
     well_formed = subst (λ ps. T (formed_procs u ps)) (sym same_procs) unit.bodies
@@ -78,8 +78,8 @@ module _ (s : List ℕ) (v : UnitView) (arities starts : List ℕ) (laid : LaidO
       arity = take_all (length laid.placed.procs) arities (omega (arith, simp length-map at (ap (λ (xs : List ℕ). length xs) laid.placed.arity))) ∙ sym laid.placed.arity;
       start = laid.placed.start;
       offers = unit.offers;
-      code_is = ap (λ n. take n c) same-k ∙ (w.code u callees well_formed ∙ ap (λ ps. code_words (code_procs u 0 ps)) same_procs);
-      fits_are = ap (λ n. take n f) same-l ∙ (w.fits u callees well_formed ∙ ap (λ ps. row_fits (code_fits 0 (code_procs u 0 ps))) same_procs);
+      code_is = ap (λ n. take n c) same_k ∙ (w.code u callees well_formed ∙ ap (λ ps. code_words (code_procs u 0 ps)) same_procs);
+      fits_are = ap (λ n. take n f) same_l ∙ (w.fits u callees well_formed ∙ ap (λ ps. row_fits (code_fits 0 (code_procs u 0 ps))) same_procs);
     }
 
     pub object_short : object_size v (take k' c) (take l' f) ≤ 10 * length s + 6

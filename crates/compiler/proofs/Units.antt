@@ -24,8 +24,8 @@ proc_here : (code : List ℕ) (l : Place) (u : SourceUnit) (qs : List Proc) (b p
 proc_here code l u [] b p a q e k h = absurd (none_some q e)
 proc_here code l u (r ∷ qs) b zero a q e k h =
     let same : r ≡ q = cc in
-    let here-r = (here_split code l (code_proc u b r) (code_procs u (b + size_proc r) qs) b (b + size_proc r) (ap (λ (n : ℕ). b + n) (length_proc u b r)) h).0 in
-    subst₂ (λ (n : ℕ) (c : Proc). Here code l n (code_proc u n c)) (omega arith) same here-r
+    let here_r = (here_split code l (code_proc u b r) (code_procs u (b + size_proc r) qs) b (b + size_proc r) (ap (λ (n : ℕ). b + n) (length_proc u b r)) h).0 in
+    subst₂ (λ (n : ℕ) (c : Proc). Here code l n (code_proc u n c)) (omega arith) same here_r
 proc_here code l u (r ∷ qs) b (suc p) a q e k h =
     proc_here code l u qs (b + size_proc r) p a q e (omega arith) (here_split code l (code_proc u b r) (code_procs u (b + size_proc r) qs) b (b + size_proc r)
     (ap (λ (n : ℕ). b + n) (length_proc u b r)) h).1

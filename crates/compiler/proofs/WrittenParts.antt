@@ -152,7 +152,7 @@ changed s i v = record { row = s.row; code = set s.code i v; at = s.at; fits = s
 
 -- a condition, a jump, the first way, a jump, and the second way; each jump is filled in when its target is known
 module _ (p : Names) (d : ℕ) (s s₁ s₂ s₃ s₄ s₆ : State) (t₁ t₂ h l k : ℕ) (i j : Instruction) (test : WroteExpr p d s s₁ h) (own : WroteOne 3 i s₁ s₂) (first : WroteExpr p d s₂ s₃ l) (own₂ : WroteOne 3 j s₃ s₄)
-    (second : WroteExpr p d (changed s₄ (s₁.at + 1) t₁) s₆ k) (space : Space 4 6 s) (is : i ≡ instr machine.JumpIfZero (in_code 0)) (js : j ≡ instr machine.Jump (in_code 0)) (to-second : t₁ ≡ s₄.at) (to_end : t₂ ≡ s₆.at) where
+    (second : WroteExpr p d (changed s₄ (s₁.at + 1) t₁) s₆ k) (space : Space 4 6 s) (is : i ≡ instr machine.JumpIfZero (in_code 0)) (js : j ≡ instr machine.Jump (in_code 0)) (to_second : t₁ ≡ s₄.at) (to_end : t₂ ≡ s₆.at) where
   abbrev s₅ : State
   s₅ = changed s₄ (s₁.at + 1) t₁
 
@@ -240,7 +240,7 @@ module _ (p : Names) (d : ℕ) (s s₁ s₂ s₃ s₄ s₆ : State) (t₁ t₂ h
       ends = filled_in machine.Jump (in_code 0) (in_code t₂) (alike 0 t₂) (code_expr u a x ++ (instr machine.JumpIfZero (in_code t₁) ∷ code_expr u s₂.at y)) (code_expr u s₅.at z) s s₆ (s₃.at + 1) inside inside₃ to_six place
 
       first_target : t₁ ≡ a + size x + 2 + size y + 2
-      first_target = to-second ∙ long_y
+      first_target = to_second ∙ long_y
 
       last_target : t₂ ≡ a + size x + 2 + size y + 2 + size z
       last_target = to_end ∙ long_z

@@ -43,8 +43,8 @@ KeepSays line limit f ws ws' (Err NoMemory) = Came f × (ws' ≡ ws)
 
 -- a text is read, or it is said why not
 abbrev pub TakeSays : ℕ → Option ℕ → List ℕ → List ℕ → Option ℕ → List ℕ → Result (Unit {0}) InputError → Type 0
-TakeSays limit so_far text ws so-far' ws' (Ok _) = reading ws so_far text ≡ Some (ws', so-far')
-TakeSays limit so_far text ws so-far' ws' (Err (NoNumber l n)) = reading ws so_far text ≡ None
-TakeSays limit so_far text ws so-far' ws' (Err (TooLong n)) = (n ≡ limit) × (limit ≤ length ws')
-TakeSays limit so_far text ws so-far' ws' (Err (Unread e)) = ⊥
-TakeSays limit so_far text ws so-far' ws' (Err NoMemory) = Unit {0}
+TakeSays limit so_far text ws so_far' ws' (Ok _) = reading ws so_far text ≡ Some (ws', so_far')
+TakeSays limit so_far text ws so_far' ws' (Err (NoNumber l n)) = reading ws so_far text ≡ None
+TakeSays limit so_far text ws so_far' ws' (Err (TooLong n)) = (n ≡ limit) × (limit ≤ length ws')
+TakeSays limit so_far text ws so_far' ws' (Err (Unread e)) = ⊥
+TakeSays limit so_far text ws so_far' ws' (Err NoMemory) = Unit {0}

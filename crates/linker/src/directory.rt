@@ -1,7 +1,7 @@
 // Objects by their names.
 ghost use Rattle.std.specs.Prelude.{◌≡◌, ◌<◌, ◌≤◌, false, length, take};
 ghost use Rattle.std.specs.Option.{option_map};
-ghost use Rattle.linker.specs.Linking.{named as named-laid, twice as two-names};
+ghost use Rattle.linker.specs.Linking.{named as named_laid, twice as two_names};
 ghost use Rattle.linker.specs.Tables.{laid_of, laid_in, objects_of, names_of};
 
 use crate::laying::Laid;
@@ -21,7 +21,7 @@ pub fn names_of(laid: &[Laid]) -> [u32; MOST_OBJECTS]
 
 // The first object with the name, looked for from the first on.
 fn first_named<'t, 'a>(laid: &'t [Laid<'a>], name: u32) -> Option<&'t Laid<'a>>
-    ensures { option_map (λ l. laid_of l.now) result ≡ named-laid name (laid_in laid.now) }
+    ensures { option_map (λ l. laid_of l.now) result ≡ named_laid name (laid_in laid.now) }
 {
     for one in laid {
         if one.object.name == name {
@@ -89,8 +89,8 @@ impl<'t, 'a> Directory<'t, 'a> {
 
     // The object with the name, where no two have one name.
     pub fn named(&self, name: u32) -> Option<&'t Laid<'a>>
-        requires { two-names (objects_of self.now.laid.now) ≡ false }
-        ensures { option_map (λ l. laid_of l.now) result ≡ named-laid name (laid_in self.now.laid.now) }
+        requires { two_names (objects_of self.now.laid.now) ≡ false }
+        ensures { option_map (λ l. laid_of l.now) result ≡ named_laid name (laid_in self.now.laid.now) }
     {
         let mut at = hint_of(name);
         for _ in 0..TRIES {

@@ -1,7 +1,7 @@
 // Finding what objects want: by name, then by procedure and number of arguments.
 ghost use Rattle.std.specs.Prelude.{◌≡◌, is_some};
 ghost use Rattle.rows.specs.ObjectViews.{want_of, wants_in, offers_in};
-ghost use Rattle.linker.specs.Linking.{offered as offered-place, place as place_of, places, entry as entry_of};
+ghost use Rattle.linker.specs.Linking.{offered as offered_place, place as place_of, places, entry as entry_of};
 ghost use Rattle.linker.specs.Tables.{laid_of, laid_by};
 ghost use Rattle.linker.specs.Finding.{begin_of, Settled, Ready};
 ghost use Rattle.linker.specs.Fitting.{MeetsSays};
@@ -12,7 +12,7 @@ use rows::objects::{Offer, Want};
 
 // Where the first offer of the procedure with so many arguments begins.
 fn offered(offers: &[[u32; 3]], proc: u32, args: u32) -> Option<u32>
-    ensures { result ≡ offered-place proc args (offers_in offers.now) }
+    ensures { result ≡ offered_place proc args (offers_in offers.now) }
 {
     let mut left = offers;
     let at = loop {

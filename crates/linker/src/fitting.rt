@@ -1,7 +1,7 @@
 // Fitting objects' code to where it lies.
 ghost use Rattle.std.specs.Prelude.{◌≡◌, ℕ, ◌≤◌, length, take, slice_index, slice_set};
 ghost use Rattle.rows.specs.ObjectViews.{object_of, fit_of};
-ghost use Rattle.linker.specs.Linking.{fitted as fitted-word, fit_all};
+ghost use Rattle.linker.specs.Linking.{fitted as fitted_word, fit_all};
 ghost use Rattle.linker.specs.Tables.{laid_of, laid_by};
 ghost use Rattle.linker.specs.Finding.{Ready};
 ghost use Rattle.linker.specs.Fitting.{Met, places_of, Known};
@@ -41,7 +41,7 @@ fn fitted(directory: &Directory, own: &Laid, known: &[u32], fit: Fit, old: u32) 
     requires ready { Ready directory.now.laid.now }
     requires met { Met (laid_by directory.now) (laid_of own.now).object.wants }
     requires known { Known (laid_by directory.now) (laid_of own.now).object.wants known.now }
-    ensures { result ≡ fitted-word (laid_of own.now) (places_of (laid_by directory.now) (laid_of own.now).object.wants) old fit.kind fit.want }
+    ensures { result ≡ fitted_word (laid_of own.now) (places_of (laid_by directory.now) (laid_of own.now).object.wants) old fit.kind fit.want }
 {
     match fit.what() {
         Kind::Code => old.wrapping_add(own.code_at),
@@ -62,7 +62,7 @@ fn fit_word(directory: &Directory, own: &Laid, known: &[u32], fit: Fit, code: &m
     requires ready { Ready directory.now.laid.now }
     requires met { Met (laid_by directory.now) (laid_of own.now).object.wants }
     requires known { Known (laid_by directory.now) (laid_of own.now).object.wants known.now }
-    ensures { code.new ≡ slice_set code.old fit.at (fitted-word (laid_of own.now) (places_of (laid_by directory.now) (laid_of own.now).object.wants) (slice_index code.old fit.at) fit.kind fit.want) }
+    ensures { code.new ≡ slice_set code.old fit.at (fitted_word (laid_of own.now) (places_of (laid_by directory.now) (laid_of own.now).object.wants) (slice_index code.old fit.at) fit.kind fit.want) }
 {
     let at = fit.at as usize;
     if at < code.len() {

@@ -39,9 +39,9 @@ own_alike [] i = refl
 own_alike (p ∷ ps) zero = refl
 own_alike (p ∷ ps) (suc i) = own_alike ps i
 
-module _ (u : SourceUnit) (wants arities : List ℕ) (is-wants : wants_said wants ≡ u.wants) (is-arities : map (λ p. p.args) u.procs ≡ arities) where
+module _ (u : SourceUnit) (wants arities : List ℕ) (is_wants : wants_said wants ≡ u.wants) (is_arities : map (λ p. p.args) u.procs ≡ arities) where
   arity_alike : (c : ℕ) → arity u c ≡ arity (outlined u.words wants arities) c
-  arity_alike c = rw (is-wants, ← is-arities) (ap (λ a. cond (ltb c (length u.wants)) (option_map (λ w. w.args) (slice_get u.wants c)) a) (own_alike u.procs (c - length u.wants)))
+  arity_alike c = rw (is_wants, ← is_arities) (ap (λ a. cond (ltb c (length u.wants)) (option_map (λ w. w.args) (slice_get u.wants c)) a) (own_alike u.procs (c - length u.wants)))
 
   -- a body is right in the unit exactly if it is right in the outline
   pub outline_right : (k d : ℕ) (e : Expr) → Right u k d e → Right (outlined u.words wants arities) k d e

@@ -1,6 +1,6 @@
 -- Procedures read off a row, one after the other.
 use Rattle.std.proofs.Common.{◌≡◌, ℕ, ◌+◌, ◌-◌, ◌<◌, ◌≤◌, Bool, true, false, eqb, List, [], ◌∷◌, ◌++◌, map, length, get_or, take, drop, set, Some, None, Decides, sym, refl, ap, ◌∙◌, ap₂, arith}
-use Rattle.std.specs.List.{AllByRecursion as All}
+use Rattle.std.specs.List.{AllByRecursion}
 use Rattle.std.proofs.lemmas.List.{append-nil, append_assoc, length-append, take_rest, map_push, take_all, take_more_set, nil_from_length}
 use Rattle.std.proofs.lemmas.Slice.{first_rest}
 use Rattle.std.proofs.lemmas.Bool.{true≢false, eqb-true, eqb-false}
@@ -21,7 +21,7 @@ pub record Read (Ok : Proc → Type 0) (row left : List ℕ) (i : ℕ) (ps : Lis
   pub count : length ps ≡ i
   pub says : row ≡ row_procs ps ++ left
   pub shorter : length left ≤ length row
-  pub each : All Ok ps
+  pub each : AllByRecursion Ok ps
 
 pub read_none : (Ok : Proc → Type 0) (row : List ℕ) → Read Ok row row 0 []
 read_none Ok row = record { count = refl; says = refl; shorter = omega arith; each = tt }
@@ -47,9 +47,9 @@ pub record Left (Ok : Proc → Type 0) (n : ℕ) (left : List ℕ) : Type 0 wher
   pub rest : List Proc
   pub count : length rest ≡ n
   pub says : row_procs rest ≡ left
-  pub each : All Ok rest
+  pub each : AllByRecursion Ok rest
 
-left_over : (Ok : Proc → Type 0) (n : ℕ) (ps qs : List Proc) (left : List ℕ) → length ps + n ≡ length qs → row_procs qs ≡ row_procs ps ++ left → All Ok qs → Left Ok n left
+left_over : (Ok : Proc → Type 0) (n : ℕ) (ps qs : List Proc) (left : List ℕ) → length ps + n ≡ length qs → row_procs qs ≡ row_procs ps ++ left → AllByRecursion Ok qs → Left Ok n left
 left_over Ok n [] qs left c e all = record { rest = qs; count = omega arith; says = e; each = all }
 left_over Ok n (p ∷ ps) [] left c e all = absurd (omega arith)
 left_over Ok n (p ∷ ps) (q ∷ qs) left c e all =
@@ -64,7 +64,7 @@ pub record Next (Ok : Proc → Type 0) (left : List ℕ) : Type 0 where
   pub says : left ≡ proc.args ∷ (row_expr proc.body ++ behind)
   pub right : Ok proc
 
-first_left : (Ok : Proc → Type 0) (n : ℕ) (left : List ℕ) (ps : List Proc) → 0 < n → length ps ≡ n → row_procs ps ≡ left → All Ok ps → Next Ok left
+first_left : (Ok : Proc → Type 0) (n : ℕ) (left : List ℕ) (ps : List Proc) → 0 < n → length ps ≡ n → row_procs ps ≡ left → AllByRecursion Ok ps → Next Ok left
 first_left Ok n left [] more c e all = absurd (omega arith)
 first_left Ok n left (p ∷ ps) more c e all = record { proc = p; behind = row_procs ps; says = sym e; right = all.0 }
 

@@ -60,10 +60,10 @@ module _ (row : List ℕ) (s : Sign) (size : ℕ) (signed : Begins row size (row
           let fs = h.front in
           let gs = h.back in
           let split_row : row_exprs es ++ rest ≡ row_exprs fs ++ (row_exprs gs ++ rest) = ap (λ x. row_exprs x ++ rest) (sym h.joined) ∙ row_join fs gs rest in
-          let Node-row = row_node s fs h.count in (
+          let NodeRow = row_node s fs h.count in (
             cons (node s fs) gs,
             omega (arith, count_join fs gs, ap count h.joined, h.count),
-            signed.begins ∙ (ap (λ x. row_sign s ++ x) (q ∙ split_row) ∙ (sym (append_assoc (row_sign s) (row_exprs fs) (row_exprs gs ++ rest)) ∙ (ap (λ x. x ++ (row_exprs gs ++ rest)) (sym Node-row) ∙ sym (append_assoc (row_expr (node s fs)) (row_exprs gs) rest)))),
+            signed.begins ∙ (ap (λ x. row_sign s ++ x) (q ∙ split_row) ∙ (sym (append_assoc (row_sign s) (row_exprs fs) (row_exprs gs ++ rest)) ∙ (ap (λ x. x ++ (row_exprs gs ++ rest)) (sym NodeRow) ∙ sym (append_assoc (row_expr (node s fs)) (row_exprs gs) rest)))),
           )
 
 -- n expressions are still to come of one that stands in front of the row; left is what is behind those that have come

@@ -1,6 +1,6 @@
 -- A unit is read off its row: what the parts of the check say of it together.
 use Rattle.std.proofs.Common.{◌≡◌, ℕ, ◌-◌, ◌≤◌, true, false, ◌&&◌, T, leb, List, [], ◌∷◌, ◌++◌, map, length, take, drop, sym, refl, ap, ◌∙◌, subst, ap₂, arith}
-use Rattle.std.specs.List.{AllByRecursion as All}
+use Rattle.std.specs.List.{AllByRecursion}
 use borrow.Rule.Slice.PartMut.{post_of}
 use Rattle.std.proofs.lemmas.Slice.{drop-append-drop}
 use Rattle.std.proofs.lemmas.List.{append-nil, length-append, length-take-le, take_at, drop_at}
@@ -27,13 +27,13 @@ leb_T : (a b : ℕ) → a ≤ b → T (leb a b)
 leb_T a b h = true_T (leb a b) (le-leb a b h)
 
 -- the limits of procedures, one after the other
-pub few_of : (ps : List Proc) → T (small_procs ps) → All FewArgs ps
+pub few_of : (ps : List Proc) → T (small_procs ps) → AllByRecursion FewArgs ps
 few_of [] t = tt
 few_of (p ∷ ps) t =
     let h = T-parts (leb p.args 8) (leb (depth p.body) 256 && small_procs ps) t in
     (T-leb p.args 8 h.0, few_of ps (T-parts (leb (depth p.body) 256) (small_procs ps) h.1).1)
 
-pub right_of : (u : SourceUnit) (ps : List Proc) → T (small_procs ps) → T (formed_procs u ps) → All (BodyRight u) ps
+pub right_of : (u : SourceUnit) (ps : List Proc) → T (small_procs ps) → T (formed_procs u ps) → AllByRecursion (BodyRight u) ps
 right_of u [] t f = tt
 right_of u (p ∷ ps) t f =
     let h = T-parts (leb p.args 8) (leb (depth p.body) 256 && small_procs ps) t in
@@ -41,11 +41,11 @@ right_of u (p ∷ ps) t f =
     let g = T-parts (formed u p.args p.body) (formed_procs u ps) f in
     (record { deep = T-leb (depth p.body) 256 d.0; formed = g.0 }, right_of u ps d.1 g.1)
 
-small_of : (u : SourceUnit) (ps : List Proc) → All FewArgs ps → All (BodyRight u) ps → T (small_procs ps)
+small_of : (u : SourceUnit) (ps : List Proc) → AllByRecursion FewArgs ps → AllByRecursion (BodyRight u) ps → T (small_procs ps)
 small_of u [] few right = tt
 small_of u (p ∷ ps) few right = T-both (leb p.args 8) (leb (depth p.body) 256 && small_procs ps) (leb_T p.args 8 few.0) (T-both (leb (depth p.body) 256) (small_procs ps) (leb_T (depth p.body) 256 right.0.deep) (small_of u ps few.1 right.1))
 
-formed_of : (u : SourceUnit) (ps : List Proc) → All (BodyRight u) ps → T (formed_procs u ps)
+formed_of : (u : SourceUnit) (ps : List Proc) → AllByRecursion (BodyRight u) ps → T (formed_procs u ps)
 formed_of u [] right = tt
 formed_of u (p ∷ ps) right = T-both (formed u p.args p.body) (formed_procs u ps) right.0.formed (formed_of u ps right.1)
 
@@ -86,7 +86,7 @@ module _ (row : List ℕ) (v : UnitView) (cut : Cut row v) where
       }
 
   -- what stands in every unit that the row says
-  cut_procs : (Ok : Proc → Type 0) (u : SourceUnit) → ViewOf v u → All Ok u.procs → Procedures Ok v.count v.procs.now u.procs
+  cut_procs : (Ok : Proc → Type 0) (u : SourceUnit) → ViewOf v u → AllByRecursion Ok u.procs → Procedures Ok v.count v.procs.now u.procs
   cut_procs Ok u h all = record { count = sym h.count; says = sym h.procs; each = all }
 
   -- where a part of the check fails, the row says no unit
@@ -122,8 +122,8 @@ module _ (row : List ℕ) (v : UnitView) (cut : Cut row v) where
         to_outline p r = rw w.words (outline_right u v.wants.now arities (view_wants v u w) (ap (map (λ q. q.args)) (sym same) ∙ says.2) p.args 256 p.body r)
 
     module _ (qs : List Proc) (right : Procedures (BodyRight outline) m v.procs.now qs) (small : small_wants (wants_said v.wants.now) ≡ true) (below : all_below v.count v.offers.now ≡ true) where
-      bodies : All (BodyRight (unit_of v says.0)) says.0
-      bodies = All-weaker (BodyRight outline) (BodyRight (unit_of v says.0)) (λ p r. right_outline (unit_of v says.0) v.wants.now arities refl says.2 p.args 256 p.body r) says.0 (subst (All (BodyRight outline)) (one_list qs says.0 (rw each at right) few) right.each)
+      bodies : AllByRecursion (BodyRight (unit_of v says.0)) says.0
+      bodies = All-weaker (BodyRight outline) (BodyRight (unit_of v says.0)) (λ p r. right_outline (unit_of v says.0) v.wants.now arities refl says.2 p.args 256 p.body r) says.0 (subst (AllByRecursion (BodyRight outline)) (one_list qs says.0 (rw each at right) few) right.each)
 
       pub unit_row : UnitRow row (unit_of v says.0)
       unit_row = record {

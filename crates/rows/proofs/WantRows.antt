@@ -4,12 +4,12 @@ use Rattle.std.proofs.lemmas.List.{take_rest}
 use Rattle.rows.specs.Units.{Want}
 use Rattle.rows.specs.UnitRows.{row_wants}
 use Rattle.rows.specs.ObjectViews.{want_of}
-use Rattle.rows.specs.WantRows.{wants_said, First-want}
+use Rattle.rows.specs.WantRows.{wants_said, FirstWant}
 use Rattle.rows.specs.declared.objects.Want.{Want as WantWords}
 
 -- a row of at least three words begins with the want that they say
 pub first_want : (row : List ℕ) (r : WantWords × Bor (List ℕ)) → 3 ≤ length row → r.1.now ≡ take (length row - 3) (drop 3 row) →
-    want_of r.0 ≡ record { unit = get_or row 0 0; proc = get_or row 1 0; args = get_or row 2 0 } → First-want row r
+    want_of r.0 ≡ record { unit = get_or row 0 0; proc = get_or row 1 0; args = get_or row 2 0 } → FirstWant row r
 first_want [] r long rest is = absurd (omega arith)
 first_want (a ∷ []) r long rest is = absurd (omega arith)
 first_want (a ∷ b ∷ []) r long rest is = absurd (omega arith)

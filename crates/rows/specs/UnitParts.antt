@@ -1,6 +1,6 @@
 -- The parts of a unit's row, each checked by itself: the cut by the counts, the numbers of arguments, the bodies.
 use Rattle.std.specs.Prelude.{◌≡◌, ℕ, ◌≤◌, Bool, true, false, List, ◌∷◌, ◌++◌, map, length, Some, None, Option}
-use Rattle.std.specs.List.{AllByRecursion as All}
+use Rattle.std.specs.List.{AllByRecursion}
 use Rattle.rows.specs.Units.{Proc, SourceUnit}
 use Rattle.rows.specs.UnitRows.{row_wants, row_procs, small_wants, all_below, UnitRow}
 use Rattle.rows.specs.WantRows.{wants_said}
@@ -35,7 +35,7 @@ OpenSays row (Some v) = Opened row v
 pub record Procedures (Ok : Proc → Type 0) (n : ℕ) (row : List ℕ) (ps : List Proc) : Type 0 where
   pub count : length ps ≡ n
   pub says : row_procs ps ≡ row
-  pub each : All Ok ps
+  pub each : AllByRecursion Ok ps
 
 -- a procedure with few enough arguments; one whose body is well formed in u and not too deep
 abbrev pub FewArgs : Proc → Type 0

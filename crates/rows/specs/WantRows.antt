@@ -13,10 +13,10 @@ wants_said (a ∷ b ∷ []) = []
 wants_said (a ∷ b ∷ c ∷ xs) = record { unit = a; proc = b; args = c } ∷ wants_said xs
 
 -- the first of a row's wants and the row behind it, or that there is none
-pub record First-want (row : List ℕ) (r : WantWords × Bor (List ℕ)) : Type 0 where
+pub record FirstWant (row : List ℕ) (r : WantWords × Bor (List ℕ)) : Type 0 where
   pub reads : wants_said row ≡ want_of r.0 ∷ wants_said r.1.now
   pub shorter : length r.1.now < length row
 
 abbrev pub FirstWantSays : List ℕ → Option (WantWords × Bor (List ℕ)) → Type 0
 FirstWantSays row None = wants_said row ≡ []
-FirstWantSays row (Some r) = First-want row r
+FirstWantSays row (Some r) = FirstWant row r

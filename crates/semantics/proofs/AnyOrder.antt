@@ -46,10 +46,10 @@ pub fits_in_any_order : FitsInAnyOrder
 fits_in_any_order u us vs fit apart same =
     let back = in_more u vs us (λ w. (same w).1) in
     let first = not_named us vs (λ w. (same w).1) u.name (and_both (not (among u.name (names us))) (distinct (names us)) fit.apart).0 in
-    let All-apart = both_and (not (among u.name (names vs))) (distinct (names vs)) first apart in
+    let all_apart = both_and (not (among u.name (names vs))) (distinct (names vs)) first apart in
     record {
-      apart = All-apart;
+      apart = all_apart;
       starts = fit.starts;
-      met = still_met (u ∷ us) (u ∷ vs) back All-apart (in_more u us vs (λ w. (same w).0)) fit.met;
+      met = still_met (u ∷ us) (u ∷ vs) back all_apart (in_more u us vs (λ w. (same w).0)) fit.met;
       formed = still_formed (u ∷ us) (u ∷ vs) back fit.formed;
     }

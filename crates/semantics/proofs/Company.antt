@@ -22,7 +22,7 @@ abbrev SameUnit : List SourceUnit → List SourceUnit → ℕ → ℕ → Type 0
 SameUnit us vs i j = (w : SourceUnit) × (slice_get us i ≡ Some w) × (slice_get vs j ≡ Some w)
 
 -- words for every unit of both programs, and the same for the same unit
-record Same-words (us vs : List SourceUnit) (ws ws' : List (List ℕ)) : Type 0 where
+record SameWords (us vs : List SourceUnit) (ws ws' : List (List ℕ)) : Type 0 where
   all : length ws ≡ length us
   all' : length ws' ≡ length vs
   same : (i j : ℕ) → SameUnit us vs i j → get_or ws i [] ≡ get_or ws' j []
@@ -36,7 +36,7 @@ zeros_at [] i w e = absurd (none-some w e)
 zeros_at (u ∷ us) zero w e = ap (λ v. replicate v.words 0) (same_Some u w e)
 zeros_at (u ∷ us) (suc i) w e = zeros_at us i w e
 
-same_zeros : (us vs : List SourceUnit) → Same-words us vs (zeros us) (zeros vs)
+same_zeros : (us vs : List SourceUnit) → SameWords us vs (zeros us) (zeros vs)
 same_zeros us vs = record { all = length-zeros us; all' = length-zeros vs; same = λ i j u. zeros_at us i u.0 u.1 ∙ sym (zeros_at vs j u.0 u.2) }
 
 -- a unit has one place in a program
@@ -67,7 +67,7 @@ module _ (us vs : List SourceUnit) (met : T (all_met us us)) (apart : T (distinc
       which true = want (slice_get u.0.wants c) refl
       which false = both refl u
 
-  same_keeps : (i j : ℕ) → SameUnit us vs i j → (ws ws' : List (List ℕ)) → Same-words us vs ws ws' → (n v : ℕ) → Same-words us vs (keep_at ws i n v) (keep_at ws' j n v)
+  same_keeps : (i j : ℕ) → SameUnit us vs i j → (ws ws' : List (List ℕ)) → SameWords us vs ws ws' → (n v : ℕ) → SameWords us vs (keep_at ws i n v) (keep_at ws' j n v)
   same_keeps i j u ws ws' w n v = record {
     all = length-set ws i _ ∙ w.all;
     all' = length-set ws' j _ ∙ w.all';
@@ -86,7 +86,7 @@ module _ (us vs : List SourceUnit) (met : T (all_met us us)) (apart : T (distinc
       other : (i₁ j₁ : ℕ) → SameUnit us vs i₁ j₁ → i₁ ≢ i → j₁ ≢ j → get_or (keep_at ws i n v) i₁ [] ≡ get_or (keep_at ws' j n v) j₁ []
       other i₁ j₁ u₁ ne ne' = get_or-set_other ws i i₁ _ [] ne ∙ w.same i₁ j₁ u₁ ∙ sym (get_or-set_other ws' j j₁ _ [] ne')
 
-  all_same : Correspond us vs (SameUnit us vs) (Same-words us vs)
+  all_same : Correspond us vs (SameUnit us vs) (SameWords us vs)
   all_same = record { unit = λ i j u. u.1 ∙ sym u.2; callee = same_callee; reads = λ i j u ws ws' w. w.same i j u; keeps = same_keeps }
 
 as_much : (b : Behaviour) → NotForWant (Unit {0}) (Unit {0}) b
@@ -97,7 +97,7 @@ as_much (without_room ws) = tt
 any_company : AnyCompany
 any_company u us vs fit fit' f room calls tape =
     let b = ends (u ∷ us) room calls tape fit in
-    let both = programs_seen (u ∷ us) (u ∷ vs) (SameUnit (u ∷ us) (u ∷ vs)) (Same-words (u ∷ us) (u ∷ vs))
+    let both = programs_seen (u ∷ us) (u ∷ vs) (SameUnit (u ∷ us) (u ∷ vs)) (SameWords (u ∷ us) (u ∷ vs))
     (all_same (u ∷ us) (u ∷ vs) fit.met fit.apart fit'.apart (in_more u us vs f))
     (Unit {0}) (Unit {0}) (same_zeros (u ∷ us) (u ∷ vs)) (u, refl, refl) tape room room calls calls (le_refl room) (λ _. refl) (le_refl calls) (λ _. refl) in
     b.1 ∙ sym (both.same_end b.0 (as_much b.0) b.1)

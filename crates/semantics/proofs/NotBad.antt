@@ -36,10 +36,10 @@ module _ (w : SourceUnit) (n u : ℕ) (vs : List ℕ) (x : ℕ → List ℕ → 
         on_not_bad (eval x u vs a s) _ (eval_not_bad a s (and_both (formed w n a) (formed w n b) t).0)
         (λ v r. on_not_bad (eval x u vs b r) _ (eval_not_bad b r (and_both (formed w n a) (formed w n b) t).1) (λ _ _. tt))
     eval_not_bad (if c a b) s t =
-        let c-ab = and_both (formed w n c) (formed w n a && formed w n b) t in
-        let a-b = and_both (formed w n a) (formed w n b) c-ab.1 in
-        on_not_bad (eval x u vs c s) _ (eval_not_bad c s c-ab.0)
-        (λ v r. choose_both NotBad v (eval x u vs a r) (eval x u vs b r) (eval_not_bad a r a-b.0) (eval_not_bad b r a-b.1))
+        let c_ab = and_both (formed w n c) (formed w n a && formed w n b) t in
+        let a_b = and_both (formed w n a) (formed w n b) c_ab.1 in
+        on_not_bad (eval x u vs c s) _ (eval_not_bad c s c_ab.0)
+        (λ v r. choose_both NotBad v (eval x u vs a r) (eval x u vs b r) (eval_not_bad a r a_b.0) (eval_not_bad b r a_b.1))
     eval_not_bad (keep i e) s t = on_not_bad (eval x u vs e s) _ (eval_not_bad e s (and_both (ltb i w.words) (formed w n e) t).1) (λ _ _. tt)
     eval_not_bad (then a b) s t =
         on_not_bad (eval x u vs a s) _ (eval_not_bad a s (and_both (formed w n a) (formed w n b) t).0)
@@ -54,9 +54,9 @@ module _ (w : SourceUnit) (n u : ℕ) (vs : List ℕ) (x : ℕ → List ℕ → 
         NotBad (ons (evals x u vs es s) k)
     evals_not_bad nil s t k h = h [] s
     evals_not_bad (cons e es) s t k h =
-        let e-es = and_both (formed w n e) (formed_args w n es) t in
+        let e_es = and_both (formed w n e) (formed_args w n es) t in
         subst NotBad (sym (ons_cons x u vs e es s k))
-        (on_not_bad (eval x u vs e s) _ (eval_not_bad e s e-es.0) (λ v r. evals_not_bad es r e-es.1 (λ ws. k (v ∷ ws)) (λ ws. h (v ∷ ws))))
+        (on_not_bad (eval x u vs e s) _ (eval_not_bad e s e_es.0) (λ v r. evals_not_bad es r e_es.1 (λ ws. k (v ∷ ws)) (λ ws. h (v ∷ ws))))
 
 -- calls of what a look-up finds, if calls of procedures that are there are not bad
 found_not_bad : (us : List SourceUnit) (f : Target → List ℕ → State → Result) →

@@ -23,7 +23,7 @@ use Rattle.semantics.specs.RunLinked.{Inputs, RanImage, Refused, refusal, RunSay
 use Rattle.semantics.proofs.Endings.{begins, halted_so, runs_no_more}
 use Rattle.semantics.proofs.Sizes.{image_short}
 use Rattle.semantics.proofs.Linkable.{links}
-use Rattle.semantics.proofs.NotBad.{ends as programs-end}
+use Rattle.semantics.proofs.NotBad.{ends as programs_end}
 use Rattle.semantics.proofs.Main.{linked_runs}
 use Rattle.semantics.proofs.Promised.{demands}
 use Rattle.semantics.proofs.Budgets.{budgets}
@@ -100,13 +100,13 @@ refused_space Missing is = let z : ◌≡◌ {A = ℕ} 0 1 = cc in absurd (omega
 refused_space NoSpace is = refl
 
 post : (x : Inputs) (i o : List ℕ) (r : Result Ran NotLinked) → RunSays x i o r → ((length x.image < 4 + length x.objects) ↔ (r ≡ Err NoSpace)) → Promised x o r → RunLinkedPost x i o r
-post x i o r says space promise = record { says = says; space = space; promise = promise; enough_steps = enough_steps; demands = demands; ends = programs-end; budgets = budgets; company = company }
+post x i o r says space promise = record { says = says; space = space; promise = promise; enough_steps = enough_steps; demands = demands; ends = programs_end; budgets = budgets; company = company }
 
 pub post_run : (x : Inputs) (i o : List ℕ) (size words : ℕ) (r : Ran) → x.room < 2 ^ 32 → LinkedPost x.objects x.image i (linked.Image size words) →
     RanPost (take size i) words x.room x.tape x.calls x.steps x.out o x.work r → RunLinkedPost x i o (Ok r)
 post_run x i o size words r small linked ran = post x i o (Ok r) says
     (λ few. let z : ◌≡◌ {A = ℕ} 0 1 = cc (linked.space.0 few) in absurd (omega arith), λ e. let z : ◌≡◌ {A = ℕ} 0 1 = cc in absurd (omega arith))
-    (λ us os rows objects fit. let b = programs-end us x.room x.calls x.tape fit in (b.0, b.1, run_as_units us os objects fit x i o r small rows says b.0 b.1))
+    (λ us os rows objects fit. let b = programs_end us x.room x.calls x.tape fit in (b.0, b.1, run_as_units us os objects fit x i o r small rows says b.0 b.1))
   where
     says : RanImage x i o r
     says = record { size = size; words = words; links = linked.says; ran = ran }
@@ -114,7 +114,7 @@ post_run x i o size words r small linked ran = post x i o (Ok r) says
 pub post_refusal : (x : Inputs) (i : List ℕ) (e : NotLinked) → LinkedPost x.objects x.image i (refusal e) → RunLinkedPost x i x.out (Err e)
 post_refusal x i e linked = post x i x.out (Err e) says
     (λ few. ap Err (refused_space e (linked.space.0 few)), λ is. linked.space.1 (ap refusal (same_err is)))
-    (λ us os rows objects fit. let b = programs-end us x.room x.calls x.tape fit in (b.0, b.1, not_refused us os objects fit x i x.out e rows says (λ is. linked.space.1 (ap refusal is)) b.0))
+    (λ us os rows objects fit. let b = programs_end us x.room x.calls x.tape fit in (b.0, b.1, not_refused us os objects fit x i x.out e rows says (λ is. linked.space.1 (ap refusal is)) b.0))
   where
     says : Refused x i x.out e
     says = record { links = linked.says; kept = refl }

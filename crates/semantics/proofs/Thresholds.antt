@@ -7,7 +7,7 @@ use Rattle.semantics.specs.Whole.{Behaviour}
 -- f is the end with an amount; E says that the amount was enough, and `lacking ws` that it was not
 module _ (f : ℕ → Option Behaviour) (E : Behaviour → Type 0) (lacking : List ℕ → Behaviour)
     (one_of_lem : (b : Behaviour) → E b ⊎ ((ws : List ℕ) × (b ≡ lacking ws)))
-    (not-both : (ws : List ℕ) → E (lacking ws) → ⊥)
+    (not_both : (ws : List ℕ) → E (lacking ws) → ⊥)
     (stays : (n n' : ℕ) → n ≤ n' → (b : Behaviour) → E b → f n ≡ Some b → f n' ≡ Some b)
     (before : (n n' : ℕ) → n ≤ n' → (b : Behaviour) → f n' ≡ Some b → (a : Behaviour) × (f n ≡ Some a)) where
   -- below an amount that was not enough none is
@@ -17,7 +17,7 @@ module _ (f : ℕ → Option Behaviour) (E : Behaviour → Type 0) (lacking : Li
       which : (a : Behaviour) × (f n ≡ Some a) → (ws' : List ℕ) × (f n ≡ Some (lacking ws'))
       which a =
           ⊎_elim
-          (λ h. absurd (not-both ws (subst E (same_Some a.0 (lacking ws) (sym (stays n n' le a.0 h a.1) ∙ e)) h)))
+          (λ h. absurd (not_both ws (subst E (same_Some a.0 (lacking ws) (sym (stays n n' le a.0 h a.1) ∙ e)) h)))
           (λ l. (l.0, a.1 ∙ ap Some l.1)) (one_of_lem a.0)
 
   abbrev Least : Behaviour → Type 0

@@ -71,9 +71,9 @@ refused : (u : SourceUnit) (o : Object) (code shape : List ℕ) (i place base : 
     Placed u o code shape i 4 [] → u.wants ≡ [] → T (offers_proc u 0 0) → offered 0 0 o.offers ≡ Some place → Entered shape (4 + place) (caller base) 5 [] (begun words) (called place base memory) →
     run_unit 2 u i nothing 0 5 [] (begun words) ≡ value v s → never k code (looks_returned shape (caller base) v s (called place base memory)) (called place base memory) ≡ true →
     ObjectOf u o → ⊥
-refused u o code shape i place base memory words v s k placed no-wants offers there entered result test h =
+refused u o code shape i place base memory words v s k placed no_wants offers there entered result test h =
     let m = called place base memory in
-    let outcome = h.simulates code shape i 4 [] 1 nothing placed (λ e n w le wanted. absurd (none-some w (rw no-wants at wanted))) 0 0 place offers there
+    let outcome = h.simulates code shape i 4 [] 1 nothing placed (λ e n w le wanted. absurd (none-some w (rw no_wants at wanted))) 0 0 place offers there
     (caller base) 5 [] (begun words) m refl (lit< tt) entered in
     let returned = subst (Outcome code shape (caller base) 1 m) result outcome in
     is_never k code (looks_returned shape (caller base) v s m) (λ m' e. eqb-true m'.halted 0 (and_parts (eqb m'.halted 0) _ e).0) m test
@@ -108,8 +108,8 @@ alone : (u : SourceUnit) (o : Object) (code : List ℕ) (place v k : ℕ) → Pl
     run_unit 2 u 0 nothing 0 5 [] (begun ([] ∷ [])) ≡ value v (with_left (begun ([] ∷ [])) 0) →
     never k (image code) (looks_returned (0 ∷ []) (caller 0) v (with_left (begun ([] ∷ [])) 0) (called place 0 (2 ∷ 0 ∷ 0 ∷ 0 ∷ 0 ∷ []))) (called place 0 (2 ∷ 0 ∷ 0 ∷ 0 ∷ 0 ∷ [])) ≡ true →
     ObjectOf u o → ⊥
-alone u o code place v k placed no-wants offers there result test =
-    refused u o (image code) (0 ∷ []) 0 place 0 (2 ∷ 0 ∷ 0 ∷ 0 ∷ 0 ∷ []) ([] ∷ []) v (with_left (begun ([] ∷ [])) 0) k placed no-wants offers there
+alone u o code place v k placed no_wants offers there result test =
+    refused u o (image code) (0 ∷ []) 0 place 0 (2 ∷ 0 ∷ 0 ∷ 0 ∷ 0 ∷ []) ([] ∷ []) v (with_left (begun ([] ∷ [])) 0) k placed no_wants offers there
     (enters (0 ∷ []) place 0 (2 ∷ 0 ∷ 0 ∷ 0 ∷ 0 ∷ []) ([] ∷ []) refl refl (lit≤ tt) (lit≤ tt) (lit≤ tt) refl refl) result test
 
 pub wrong : WrongObjects
