@@ -8,6 +8,7 @@ use compiler::{Compiled, compile};
 use decimal::input::read_words;
 use decimal::output::write_line;
 use std::io::Write;
+use std::process::ExitCode;
 use std::{env, io};
 
 mod failure;
@@ -37,12 +38,14 @@ What it refuses, and what to do:
   unitc: more than the 21200 numbers that there is room for
       Cut the unit in two, of which one wants what the other offers.";
 
-fn main(rt: HostRuntime) -> Result<(), Failure> {
-    let result = run(&rt);
-    if let Err(e) = &result {
-        let _ = rt.eprintln(format_args!("unitc: {e}"));
+fn main(rt: HostRuntime) -> ExitCode {
+    match run(&rt) {
+        Ok(()) => ExitCode::SUCCESS,
+        Err(e) => {
+            let _ = rt.eprintln(format_args!("unitc: {e}"));
+            ExitCode::FAILURE
+        },
     }
-    result
 }
 
 // What the line asks for.

@@ -11,6 +11,7 @@ use linker::{Linked, link};
 use machine::{Ran, go};
 use semantics::linked::{NotLinked, run_linked};
 use std::io::Write;
+use std::process::ExitCode;
 use std::{fs, io};
 
 mod failure;
@@ -68,12 +69,14 @@ What is refused, and what to do:
   unitrun: no space    the image doesn't fit
   unitrun: small       units' words and room don't fit the memory: lower --room";
 
-fn main(rt: HostRuntime) -> Result<(), Failure> {
-    let result = run(&rt);
-    if let Err(e) = &result {
-        let _ = rt.eprintln(format_args!("unitrun: {e}"));
+fn main(rt: HostRuntime) -> ExitCode {
+    match run(&rt) {
+        Ok(()) => ExitCode::SUCCESS,
+        Err(e) => {
+            let _ = rt.eprintln(format_args!("unitrun: {e}"));
+            ExitCode::FAILURE
+        },
     }
-    result
 }
 
 fn run(rt: &HostRuntime) -> Result<(), Failure> {
