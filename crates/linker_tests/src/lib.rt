@@ -61,74 +61,67 @@ mod tests {
         Ok(())
     }
 
-    // Whether the objects are refused, and the image's words are as they were.
+    // Whether the objects are refused, and the image's words are as they were; why, for who reads that it failed.
     fn refused(
         rt: &impl Abort,
         heap: Global,
         objects: &[&[u32]],
         refusal: Linked,
+        why: &str,
     ) -> Result<(), Fail> {
         let mut image = [7; 100];
         let linked = link_row(heap, objects, &mut image)?;
-        assert_eq!(rt; linked, refusal);
-        assert_eq!(rt; image, [7; 100]);
+        assert_eq!(rt; linked, refusal, "{why}");
+        assert_eq!(rt; image, [7; 100], "{why}");
         Ok(())
     }
 
     #[test]
     fn missing(rt: HostRuntime) -> Result<(), Fail> {
-        refused(&rt, rt.alloc(), &[&SUMS, &ASKS], Linked::Missing).note(
-            "the first has no procedure 0 without arguments",
+        let first = "the first has no procedure 0 without arguments";
+        refused(&rt, rt.alloc(), &[&SUMS, &ASKS], Linked::Missing, first)?;
+        refused(
+            &rt,
+            rt.alloc(),
+            &[&ASKS],
+            Linked::Missing,
+            "unit 2 isn't there",
         )?;
-        refused(&rt, rt.alloc(), &[&ASKS], Linked::Missing).note("unit 2 isn't there")?;
-        refused(&rt, rt.alloc(), &[], Linked::Missing).note("no object at all")
+        refused(&rt, rt.alloc(), &[], Linked::Missing, "no object at all")
     }
 
     #[test]
     fn name_twice(rt: HostRuntime) -> Result<(), Fail> {
-        refused(&rt, rt.alloc(), &[&ASKS, &ASKS], Linked::Twice)?;
-        refused(&rt, rt.alloc(), &[&SUMS, &IDLE, &IDLE], Linked::Twice).note("the last two")
+        refused(&rt, rt.alloc(), &[&ASKS, &ASKS], Linked::Twice, "both")?;
+        refused(
+            &rt,
+            rt.alloc(),
+            &[&SUMS, &IDLE, &IDLE],
+            Linked::Twice,
+            "the last two",
+        )
     }
 
     #[test]
     fn no_objects(rt: HostRuntime) -> Result<(), Fail> {
-        refused(&rt, rt.alloc(), &[&ASKS, &[5]], Linked::NoObjects).note("a word left over")?;
-        refused(&rt, rt.alloc(), &[&ASKS[0..41]], Linked::NoObjects).note("a word too few")?;
+        let none = Linked::NoObjects;
+        refused(&rt, rt.alloc(), &[&ASKS, &[5]], none, "a word left over")?;
+        refused(&rt, rt.alloc(), &[&ASKS[0..41]], none, "a word too few")?;
         refused(
             &rt,
             rt.alloc(),
             &[&[1, 4097, 0, 0, 0, 0]],
-            Linked::NoObjects,
-        )
-        .note("too many words")?;
-        refused(
-            &rt,
-            rt.alloc(),
-            &[&[1, 0, 0, 1, 1, 0, 0, 0, 1, 9]],
-            Linked::NoObjects,
-        )
-        .note("an offer behind the code")?;
-        refused(
-            &rt,
-            rt.alloc(),
-            &[&[1, 0, 0, 0, 1, 1, 9, 1, 0, 0]],
-            Linked::NoObjects,
-        )
-        .note("a fit behind the code")?;
-        refused(
-            &rt,
-            rt.alloc(),
-            &[&[1, 0, 0, 0, 1, 1, 9, 0, 3, 0]],
-            Linked::NoObjects,
-        )
-        .note("a fourth kind")?;
-        refused(
-            &rt,
-            rt.alloc(),
-            &[&[1, 0, 0, 0, 1, 1, 9, 0, 2, 0]],
-            Linked::NoObjects,
-        )
-        .note("a want that isn't there")
+            none,
+            "too many words",
+        )?;
+        let offer = [1, 0, 0, 1, 1, 0, 0, 0, 1, 9];
+        refused(&rt, rt.alloc(), &[&offer], none, "an offer behind the code")?;
+        let fit = [1, 0, 0, 0, 1, 1, 9, 1, 0, 0];
+        refused(&rt, rt.alloc(), &[&fit], none, "a fit behind the code")?;
+        let kind = [1, 0, 0, 0, 1, 1, 9, 0, 3, 0];
+        refused(&rt, rt.alloc(), &[&kind], none, "a fourth kind")?;
+        let want = [1, 0, 0, 0, 1, 1, 9, 0, 2, 0];
+        refused(&rt, rt.alloc(), &[&want], none, "a want that isn't there")
     }
 
     #[test]

@@ -14,7 +14,7 @@ mod tests {
         words.push(3)?;
         let mut text = "5 007\n\t4294967295".as_bytes();
         assert!(rt; read_words(&mut text, &mut words, 4).is_ok());
-        assert_eq!(rt; words.as_slice(), &[3, 5, 7, 4_294_967_295]);
+        assert_eq!(rt; words.as_slice(), [3, 5, 7, 4_294_967_295].as_slice());
         Ok(())
     }
 
