@@ -22,7 +22,6 @@ const FILL: u32 = 0xa5a5_a5a5;
 /// The proved calls: a slice is a pointer and then a length.
 mod proved {
     #[link(name = "speed", kind = "static")]
-    #[link(name = "rattle_c", kind = "static")]
     unsafe extern "C" {
         fn speed_link(objects: *const u32, objects_len: usize, image: *mut u32, image_len: usize) -> usize;
         fn speed_link_answer(objects: *const u32, objects_len: usize, image: *mut u32, image_len: usize) -> u32;

@@ -218,6 +218,7 @@ chunked-part chunked_part
 chunked-take chunked_take
 code-args code_args
 code-as code_as
+code-at code_at
 code-cut code_cut
 code-expr code_expr
 code-first code_first
