@@ -1,25 +1,32 @@
 #!/bin/sh
-# Builds both programs into target/reference, makes the sets anew, and compares them and what the reference program says of them with the
-# files of the crate `agreement` and with those here. The sets here are older ones, which are not made anew: what the reference program says of
-# them is compared with what is expected (it begins with a line more, the file's name).
+# Builds both programs, makes all sets anew, and compares them and what the reference program says of them with what is stored: the first sets
+# here, and the larger collection with the crate `agreement`, which has to print what the reference program says of it.
 set -eu
 cd "$(dirname "$0")/.."
-made=target/reference
-data=crates/agreement/data
-rm -rf $made
-mkdir -p $made
-rustc -O --edition 2021 --out-dir $made reference/generate.rs
-rustc -O --edition 2021 --out-dir $made reference/reference.rs
-$made/generate $made >$made/statistics.txt
-(cd $data && ../../../$made/reference sets.txt shapes.txt misfits.txt) >$made/stdout
-cmp $made/stdout crates/agreement/stdout
+# where rustup puts rustc, if nothing else does
+command -v rustc >/dev/null || PATH="$PATH:${HOME:-}/.cargo/bin"
+made=$(mktemp -d)
+trap 'rm -rf "$made"' EXIT
+rustc -O --edition 2021 --out-dir "$made" reference/generate.rs
+rustc -O --edition 2021 --out-dir "$made" reference/reference.rs
+
+# same FOLDER STORED: the folder's sets and what is said of them as they are made are as they are stored
+same() {
+    for name in sets shapes misfits contents statistics; do
+        cmp "$1/$name.txt" "$2/$name.txt"
+    done
+}
+
+mkdir "$made/first" "$made/more"
+"$made/generate" "$made/first" >"$made/first/statistics.txt"
+same "$made/first" reference
 for name in sets shapes misfits; do
-    cmp $made/$name.txt $data/$name.txt
+    "$made/reference" reference/$name.txt >"$made/first/said.txt"
+    cmp "$made/first/said.txt" reference/$name-expected.txt
 done
-for name in sets shapes misfits; do
-    (cd reference && ../$made/reference $name.txt) | tail -n +2 >$made/$name-said.txt
-    cmp $made/$name-said.txt reference/$name-expected.txt
-done
-cmp $made/contents.txt reference/contents.txt
-cmp $made/statistics.txt reference/statistics.txt
+
+"$made/generate" --more "$made/more" >"$made/more/statistics.txt"
+same "$made/more" crates/agreement/data
+(cd crates/agreement/data && "$made/reference" sets.txt shapes.txt misfits.txt) >"$made/more/said.txt"
+cmp "$made/more/said.txt" crates/agreement/stdout
 echo "reference: all files are as they are made"

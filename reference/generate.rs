@@ -17,9 +17,11 @@ use sets::{read_sets, Set};
 use std::path::Path;
 use units::{read_unit, Expr, Procedure, Unit, Want, Word};
 
-/// How many sets are of random programs with one budget each.
+/// How many sets there are in all, where no more are asked for.
+const COUNT: usize = 200;
+/// How many sets are of random programs with one budget each, where more are asked for.
 const RANDOM: usize = 200;
-/// How many of them put out nothing.
+/// How many of the random programs put out nothing.
 const SILENT: usize = 4;
 const SEED: u64 = 0x756e_6974_7365_7473;
 const STACK_BYTES: usize = 512 << 20;
@@ -46,16 +48,20 @@ struct Made {
     set: Set,
 }
 
+/// `generate [--more] FOLDER`
 fn main() {
-    let folder = std::env::args().nth(1).unwrap_or_else(|| ".".to_string());
+    let (options, folders): (Vec<String>, Vec<String>) =
+        std::env::args().skip(1).partition(|argument| argument == "--more");
+    let more = !options.is_empty();
+    let folder = folders.into_iter().next().unwrap_or_else(|| ".".to_string());
     let on_large_stack =
-        std::thread::Builder::new().stack_size(STACK_BYTES).spawn(move || work(&folder));
+        std::thread::Builder::new().stack_size(STACK_BYTES).spawn(move || work(&folder, more));
     on_large_stack.expect("a thread").join().expect("no panic");
 }
 
-fn work(folder: &str) {
+fn work(folder: &str, more: bool) {
     let mut contents = String::new();
-    for (name, all) in [("sets.txt", random_sets()), ("shapes.txt", shaped_sets())] {
+    for (name, all) in [("sets.txt", random_sets(more)), ("shapes.txt", shaped_sets())] {
         let sets: Vec<Set> = all.iter().map(|made| made.set.clone()).collect();
         let titles: Vec<&str> = all.iter().map(|made| made.title.as_str()).collect();
         contents.push_str(&listed(name, &titles));
@@ -66,7 +72,7 @@ fn work(folder: &str) {
             .collect();
         println!("\n{}", statistics::text(&entries));
     }
-    let (sets, titles) = misfit_sets();
+    let (sets, titles) = misfit_sets(more);
     let titles: Vec<&str> = titles.iter().map(String::as_str).collect();
     contents.push_str(&listed("misfits.txt", &titles));
     save_sets(folder, "misfits.txt", &sets);
@@ -93,8 +99,8 @@ fn save(folder: &str, name: &str, text: &str) {
     println!("{name}: {} bytes", text.len());
 }
 
-/// The worked cases, some others, and the random sets.
-fn random_sets() -> Vec<Made> {
+/// The worked cases, some others, and random sets: as many as make `COUNT` of all, or `RANDOM` where more are asked for.
+fn random_sets(more: bool) -> Vec<Made> {
     let mut all = worked_cases();
     all.extend(ended_at_once());
     for (place, &(title, shape)) in nests::NESTS.iter().chain(&nests::CROWDS).enumerate() {
@@ -103,8 +109,9 @@ fn random_sets() -> Vec<Made> {
     for family in 0..4 {
         all.extend(one_program_six_budgets(family));
     }
-    for number in 0..RANDOM {
-        all.push(random_set(number as u64, number >= RANDOM - SILENT));
+    let count = if more { RANDOM } else { COUNT - all.len() };
+    for number in 0..count {
+        all.push(random_set(number as u64, number >= count - SILENT));
     }
     all
 }
@@ -346,11 +353,11 @@ fn one_program_six_budgets(family: u64) -> Vec<Made> {
 }
 
 /// The sets that do not fit together, and what is expected of each.
-fn misfit_sets() -> (Vec<Set>, Vec<String>) {
+fn misfit_sets(more: bool) -> (Vec<Set>, Vec<String>) {
     let mut chance = chance_of(6, 0, 0);
     let mut sets = vec![];
     let mut titles = vec![];
-    for misfit in misfits() {
+    for misfit in misfits(more) {
         assert_eq!(refusal(&misfit), misfit.expected, "{}", misfit.title);
         let count = misfit.units.len();
         let words = chance.between(1, 9) as Word;

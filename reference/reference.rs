@@ -44,18 +44,19 @@ fn work() -> Result<(), String> {
     }
     for path in &paths {
         let report = report(path, details).map_err(|error| format!("{path}: {error}"))?;
+        let report = if paths.len() > 1 { format!("{path}\n{report}") } else { report };
         let written = std::io::stdout().write_all(report.as_bytes());
         written.map_err(|error| error.to_string())?;
     }
     Ok(())
 }
 
-/// The file's name, and a line for each of its sets.
+/// A line for each of the file's sets.
 fn report(path: &str, details: bool) -> Result<String, String> {
     let text = std::fs::read_to_string(path).map_err(|error| error.to_string())?;
     let sets = read_sets(&text)?;
     let mut fitting = 0;
-    let mut report = format!("{path}\n");
+    let mut report = String::new();
     for (place, set) in sets.iter().enumerate() {
         let number = place + 1;
         let verdict = judge(set).map_err(|error| format!("set {number}: {error}"))?;

@@ -14,10 +14,10 @@ pub const FIRST: [Word; 21] = [1, 0, 1, 1, 1, 2, 0, 1, 0, 6, 7, 9, 0, 1, 8, 7, 9
 pub const SECOND: [Word; 15] = [2, 1, 0, 1, 1, 1, 5, 0, 3, 0, 2, 0, 1, 0, 0];
 pub const THIRD: [Word; 5] = [3, 3, 0, 0, 0];
 
-pub fn misfits() -> Vec<MisfitSet> {
+pub fn misfits(more: bool) -> Vec<MisfitSet> {
     let mut sets = missing();
     sets.extend(twice());
-    sets.extend(no_unit());
+    sets.extend(no_unit(more));
     sets
 }
 
@@ -69,7 +69,7 @@ fn twice() -> Vec<MisfitSet> {
 }
 
 /// Sets with one list of rows that says no unit.
-fn no_unit() -> Vec<MisfitSet> {
+fn no_unit(more: bool) -> Vec<MisfitSet> {
     let alone = |title, rows: &[Word]| set(title, "no unit", &[rows]);
     let mut want_of_two = FIRST.to_vec();
     want_of_two[7] = 2;
@@ -96,7 +96,9 @@ fn no_unit() -> Vec<MisfitSet> {
     ];
     sets.push(alone("257 procedures", &crowd(257, 0)));
     sets.push(alone("257 wants", &crowd(1, 257)));
-    sets.push(alone("expressions 257 deep", &deep(257)));
+    if more {
+        sets.push(alone("expressions 257 deep", &deep(257)));
+    }
     sets.push(alone("expressions 258 deep", &deep(258)));
     sets
 }
