@@ -75,6 +75,12 @@ NextSays r r' (Ok None) = (to_come r ≡ Some []) × (r' ≡ r)
 NextSays r r' (Ok (Some v)) = Given r r' v
 NextSays r r' (Err e) = (to_come r ≡ None) × (r' ≡ r)
 
+-- an object that is given is the one in front of the row, and the reader goes on behind it, also where what stands there says no objects
+abbrev pub GivesFirst : Objects → Objects → Result (Option ObjectView) NoObjects → Type 0
+GivesFirst r r' (Ok None) = Unit {0}
+GivesFirst r r' (Ok (Some v)) = front r.rest.now ≡ Some (object_of v, r'.rest.now)
+GivesFirst r r' (Err e) = Unit {0}
+
 -- a row says at most one list of objects
 abbrev pub OneList : Type 0
 OneList = (s : List ℕ) (os ps : List Object) → ObjectRows s os → ObjectRows s ps → os ≡ ps

@@ -4,7 +4,7 @@ ghost use Rattle.std.specs.List.{slice_get};
 ghost use Rattle.std.specs.Option.{option_map};
 ghost use Rattle.rows.specs.ObjectRows.{sound, offers_inside, fits_inside};
 ghost use Rattle.rows.specs.ObjectViews.{want_of, want_in, offer_of, offer_in, offers_in, fit_of, fit_in, fits_in, fit_inside, object_of, what};
-ghost use Rattle.rows.specs.ObjectReading.{front, said, BegunSays, NextSays, OneList};
+ghost use Rattle.rows.specs.ObjectReading.{front, said, BegunSays, NextSays, GivesFirst, OneList};
 
 // A want of an object: a procedure of the unit with that name, called with so many arguments.
 #[derive(Clone, Copy, PartialEq, Eq, Debug)]
@@ -219,7 +219,8 @@ impl<'a> Objects<'a> {
 
     // The next object, or none at the row's end; a row that is no list of objects is refused.
     pub fn next(&mut self) -> Result<Option<ObjectView<'a>>, NoObjects>
-        ensures { NextSays self.old self.new result }
+        ensures says { NextSays self.old self.new result }
+        ensures first { GivesFirst self.old self.new result }
     {
         if self.rest.is_empty() {
             return Ok(None);

@@ -1,6 +1,6 @@
 -- Each of the worked cases computes.
 use Rattle.std.proofs.Common.{refl, lit≤}
-use Rattle.semantics.specs.Cases.{WorkedCases}
+use Rattle.semantics.specs.Cases.{WorkedCases, WorkedFrames}
 
 pub worked : WorkedCases
 worked = record {
@@ -20,3 +20,6 @@ worked = record {
   image_little_room = refl;
   other_order = refl;
 }
+
+pub frames : WorkedFrames
+frames = record { asks_frame = refl; sums_frame = refl }

@@ -1,4 +1,4 @@
--- Objects of units link exactly if the units' wants are met and the first can be started.
+-- Objects of units link exactly if no two units have one name, the units' wants are met and the first can be started.
 use Rattle.std.proofs.Common.{◌≡◌, ℕ, ◌+◌, Bool, true, false, not, ◌&&◌, ◌||◌, eqb, List, [], ◌∷◌, length, is_some as option_is_some, Some, None, Option, sym, refl, ap, ◌∙◌, ap₂}
 use Rattle.std.specs.Option.{option_map}
 use Rattle.std.specs.List.{slice_get}
@@ -10,7 +10,7 @@ use Rattle.rows.proofs.Decided.{T-true, true_T}
 use Rattle.linker.specs.Linking.{lay, offered, place, places, codes, entry, link, has_name, twice}
 use Rattle.semantics.specs.Runs.{position}
 use Rattle.semantics.specs.Whole.{among, names, distinct, offers_proc, unit_named, meets, wants_met, all_met, starts}
-use Rattle.semantics.specs.Theorems.{ObjectsOf, none, more, SaysTheSame, Links, LinksOnly}
+use Rattle.semantics.specs.Theorems.{ObjectsOf, none, more, SaysTheSame, Links, LinksOnly, LinksIfLinkable}
 use Rattle.semantics.proofs.Options.{some_found, is_some, is_some_then, is_some_and, same_test}
 use Rattle.semantics.proofs.Laid.{laid}
 use Rattle.semantics.proofs.Finding.{Matched, nth_matched, named_is, offer_place}
@@ -65,10 +65,13 @@ twice-names none = refl
 twice-names (more {u} {o} {us} {os} h hs) =
     ap₂ ◌||◌ (has_name-among hs o.name ∙ ap (λ n. among n (names us)) h.name) (twice-names hs) ∙ not_and (among u.name (names us)) (distinct (names us))
 
+pub links_if_linkable : LinksIfLinkable
+links_if_linkable us os hs can =
+    let found = some_found (link os) (link_met hs ∙ ap₂ ◌&&◌ (T-true (starts us) can.starts) (T-true (all_met us us) can.met)) in
+    (found.0, found.1, twice-names hs ∙ ap not (T-true (distinct (names us)) can.apart))
+
 pub links : Links
-links us os hs fit =
-    let found = some_found (link os) (link_met hs ∙ ap₂ ◌&&◌ (T-true (starts us) fit.starts) (T-true (all_met us us) fit.met)) in
-    (found.0, found.1, twice-names hs ∙ ap not (T-true (distinct (names us)) fit.apart))
+links us os hs fit = links_if_linkable us os hs (record { apart = fit.apart; starts = fit.starts; met = fit.met })
 
 pub links_only : LinksOnly
 links_only us os image hs linked apart =

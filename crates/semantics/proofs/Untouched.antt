@@ -1,18 +1,18 @@
--- A unit keeps values in its own words alone: a word of another unit stays as it is, as long as calls of the unit's wants leave it.
-use Rattle.std.proofs.Common.{◌≡◌, ℕ, zero, suc, ◌-◌, ◌<◌, cond, ltb, ◌≢◌, List, [], ◌∷◌, length, get_or, sym, ap, ◌∙◌, subst, arith, get_or-set_other}
+-- A unit keeps values in its own words alone: what holds of another unit's words goes on to hold, as long as calls of the unit's wants keep it.
+use Rattle.std.proofs.Common.{ℕ, zero, suc, ◌-◌, ◌<◌, cond, ltb, ◌≢◌, List, [], ◌∷◌, length, get_or, sym, subst, arith, get_or-set_other}
 use Rattle.std.specs.List.{slice_get}
 use Rattle.std.proofs.lemmas.Bool.{ltb-true, cond_both}
 use Rattle.rows.specs.Units.{Expr, num, arg, word, op, if, keep, then, out, next, call, Exprs, nil, cons, SourceUnit}
-use Rattle.semantics.specs.Runs.{State, Result, value, no_room, no_calls, bad, on, ons, word_at, eval, evals}
+use Rattle.semantics.specs.Runs.{State, Result, value, no_room, no_calls, bad, on, ons, eval, evals}
 use Rattle.semantics.specs.Relation.{Imports, run_unit}
 use Rattle.semantics.proofs.Continuations.{ons_cons, choose_both, spend_both, enter_both}
 
-module _ (j b w : ℕ) where
-  -- word b of unit j is w
+module _ (j : ℕ) (P : List ℕ → Type 0) where
+  -- P holds of unit j's words
   abbrev pub Has : State → Type 0
-  Has s = word_at s.words j b ≡ w
+  Has s = P (get_or s.words j [])
 
-  -- where a value comes out, the word is w
+  -- where a value comes out, P holds
   abbrev pub Keeps : Result → Type 0
   Keeps (value v s) = Has s
   Keeps (no_room s) = Unit {0}
@@ -34,7 +34,7 @@ module _ (j b w : ℕ) where
       eval_keeps (word k) s h = h
       eval_keeps (op o a c) s h = on_keeps (eval x i vs a s) _ (eval_keeps a s h) (λ v t k. on_keeps (eval x i vs c t) _ (eval_keeps c t k) (λ _ _ z. z))
       eval_keeps (if t a c) s h = on_keeps (eval x i vs t s) _ (eval_keeps t s h) (λ v r k. choose_both Keeps v _ _ (eval_keeps a r k) (eval_keeps c r k))
-      eval_keeps (keep n e) s h = on_keeps (eval x i vs e s) _ (eval_keeps e s h) (λ v t k. ap (λ us. get_or us b 0) (get_or-set_other t.words i j _ [] other) ∙ k)
+      eval_keeps (keep n e) s h = on_keeps (eval x i vs e s) _ (eval_keeps e s h) (λ v t k. subst P (sym (get_or-set_other t.words i j _ [] other)) k)
       eval_keeps (then a c) s h = on_keeps (eval x i vs a s) _ (eval_keeps a s h) (λ v. eval_keeps c)
       eval_keeps (out e) s h = on_keeps (eval x i vs e s) _ (eval_keeps e s h) (λ _ _ z. z)
       eval_keeps next s h = h

@@ -12,7 +12,7 @@ use Rattle.semantics.specs.Runs.{State, with_left, value, bad}
 use Rattle.semantics.specs.Whole.{offers_proc}
 use Rattle.semantics.specs.Relation.{flat, sizes, total, Imports, run_unit, CallSite, Entered, Returned, Outcome, Placed, ObjectOf}
 use Rattle.semantics.specs.Smallest.{smallest, smallest_code}
-use Rattle.semantics.specs.Wrong.{keeps, chooses, offers_twice, keeps_frame, jump_unmoved, number_moved, word_unmoved, counts_an_argument, WrongObjects}
+use Rattle.semantics.specs.Wrong.{keeps, chooses, offers_twice, keeps_frame, jump_unmoved, number_moved, word_unmoved, counts_an_argument, WrongObjects, NearlyRight}
 
 abbrev same_list : List ℕ → List ℕ → Bool
 same_list [] [] = true
@@ -99,6 +99,11 @@ abbrev wanted_unit : List Want → ℕ
 wanted_unit [] = 0
 wanted_unit (w ∷ ws) = w.unit
 
+-- how many arguments the first want has
+abbrev wanted_args : List Want → ℕ
+wanted_args [] = 0
+wanted_args (w ∷ ws) = w.args
+
 -- an image's first words, and then the code of an object alone
 abbrev image : List ℕ → List ℕ
 image code = 8 ∷ 4 ∷ 0 ∷ 1 ∷ code
@@ -134,4 +139,10 @@ wrong = record {
   temporary = refused smallest counts_an_argument (image counts_an_argument.code) (0 ∷ []) 0 0 1 (9 ∷ 2 ∷ 1 ∷ 0 ∷ 0 ∷ 0 ∷ []) ([] ∷ []) 7
       (with_left (begun ([] ∷ [])) 0) 12 (record { addressable = lit< tt; words = refl; lies = refl }) refl tt refl
       (enters (0 ∷ []) 0 1 (9 ∷ 2 ∷ 1 ∷ 0 ∷ 0 ∷ 0 ∷ []) ([] ∷ []) refl refl (lit≤ tt) (lit≤ tt) (lit≤ tt) refl refl) refl refl;
+}
+
+pub nearly_right : NearlyRight
+nearly_right = record {
+  want_arguments = λ h. absurd (omega (arith, ap wanted_args h.wants));
+  unoffered = λ h. h.offers_only 1 0 16 refl;
 }

@@ -1,7 +1,10 @@
 -- A table of worked cases: two units, objects for them made by hand, the image, and runs of both that agree.
 use Rattle.std.specs.Prelude.{◌≡◌, ℕ, false, List, [], ◌∷◌, length, Some, None, Option}
+use Rattle.std.specs.Option.{option_map}
+use Rattle.std.specs.List.{slice_get}
 use Rattle.rows.specs.Operations.{Add}
 use Rattle.rows.specs.Units.{arg, word, op, keep, then, out, next, call, nil, cons, SourceUnit}
+use Rattle.rows.specs.Frames.{frame}
 use Rattle.rows.specs.Objects.{Object}
 use Rattle.rows.specs.UnitRows.{row_unit, UnitRow}
 use Rattle.rows.specs.ObjectRows.{row_objects, ObjectRows}
@@ -63,3 +66,8 @@ pub record WorkedCases : Type 0 where
   pub image_little_room : image_does 11 3 ≡ Some (without_room [])
   -- the other way round unit 2 is first, whose procedure 0 takes an argument
   pub other_order : link (sums_object ∷ asks_object ∷ []) ≡ None
+
+-- the frames of the two procedures take 5 and 7 words of room, which together are enough
+pub record WorkedFrames : Type 0 where
+  pub asks_frame : option_map frame (slice_get asks.procs 0) ≡ Some 5
+  pub sums_frame : option_map frame (slice_get sums.procs 0) ≡ Some 7

@@ -1,5 +1,5 @@
 -- What follows from the relation of a unit and its object, whoever made the objects.
-use Rattle.std.specs.Prelude.{◌≡◌, ℕ, suc, ◌+◌, ◌^◌, ◌<◌, ◌≤◌, false, T, ◌≢◌, List, [], ◌∷◌, length, take, is_some, Some, slice_index}
+use Rattle.std.specs.Prelude.{◌≡◌, ℕ, suc, ◌+◌, ◌^◌, ◌<◌, ◌≤◌, Bool, false, T, ◌≢◌, List, [], ◌∷◌, length, take, drop, is_some, Some, slice_index, slice_index_or}
 use Rattle.rows.specs.Units.{SourceUnit}
 use Rattle.rows.specs.Objects.{Object}
 use Rattle.machine.specs.Machine.{Machine, begin, at}
@@ -61,6 +61,32 @@ LeavesOthersAlone = (u : SourceUnit) (o : Object) → ObjectOf u o →
     (site : CallSite) (room : ℕ) (vs : List ℕ) (s : State) (m : Machine) → length vs ≡ k → s.left ≤ d → Entered shape (c + a) site room vs s m →
     (v : ℕ) (s' : State) → run_unit (suc d) u i x p room vs s ≡ value v s' →
     (n : ℕ) × Returned shape site v s' m (steps n code m) × (at (steps n code m) (total (take j shape) + b) ≡ at m (total (take j shape) + b))
+
+-- what linking asks of units is all that it takes: units that fit together are linkable, and that bodies are well formed is no part of it
+abbrev pub LinksIfLinkable : Type 0
+LinksIfLinkable = (us : List SourceUnit) (os : List Object) → ObjectsOf us os → Linkable us → (image : List ℕ) × (link os ≡ Some image) × (twice os ≡ false)
+
+-- calls of the unit's wants, which do what x says, keep what P says of unit j's words, up to d deep
+abbrev pub WantsKeep : SourceUnit → ℕ → Imports → ℕ → (List ℕ → Bool) → Type 0
+WantsKeep u d x j P = (e n room : ℕ) (vs : List ℕ) (s : State) (v : ℕ) (s' : State) → e ≤ d → n < length u.wants → x e n room vs s ≡ value v s' →
+    T (P (slice_index_or s.words j [])) → T (P (slice_index_or s'.words j []))
+
+-- unit j's words, as they lie in memory behind those of the units before it
+abbrev pub words_in : List ℕ → ℕ → Machine → List ℕ
+words_in shape j m = take (slice_index shape j) (drop (total (take j shape)) m.memory)
+
+-- more than `LeavesOthersAlone`: a call of what an object offers keeps any property P of the words of unit j, which is another, that calls of its
+-- wants keep, such as that a word is 5, or that the words are these. It speaks of calls that return, and of the words when they return
+abbrev pub KeepsOthers : Type 0
+KeepsOthers = (u : SourceUnit) (o : Object) → ObjectOf u o →
+    (code shape : List ℕ) (i c : ℕ) (ps : List ℕ) (d : ℕ) (x : Imports) → Placed u o code shape i c ps → WantsDo u code shape d ps x →
+    (j : ℕ) (P : List ℕ → Bool) → j ≢ i → WantsKeep u d x j P →
+    (p k a : ℕ) → offered p k o.offers ≡ Some a →
+    (site : CallSite) (room : ℕ) (vs : List ℕ) (s : State) (m : Machine) → length vs ≡ k → s.left ≤ d → Entered shape (c + a) site room vs s m →
+    (v : ℕ) (s' : State) → run_unit (suc d) u i x p room vs s ≡ value v s' →
+    (n : ℕ) × Returned shape site v s' m (steps n code m)
+    × (T (P (slice_index_or s.words j [])) → T (P (slice_index_or s'.words j [])))
+    × (T (P (words_in shape j m)) → T (P (words_in shape j (steps n code m))))
 
 -- a machine on its code ends in one way only, whenever one looks
 abbrev pub EndsOnce : Type 0

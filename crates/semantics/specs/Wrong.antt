@@ -1,6 +1,6 @@
 -- Objects that are none: each is made by hand with one fault that compilers and linkers are known for, and is no object of its unit.
 -- All but the fault is right in each of them.
-use Rattle.std.specs.Prelude.{ℕ, List, [], ◌∷◌}
+use Rattle.std.specs.Prelude.{ℕ, List, [], ◌∷◌, ◌++◌}
 use Rattle.rows.specs.Units.{num, if, keep, next, SourceUnit}
 use Rattle.rows.specs.Objects.{Fit, Offer, Object}
 use Rattle.semantics.specs.Cases.{asks, asks_object}
@@ -86,3 +86,21 @@ pub record WrongObjects : Type 0 where
   pub number : ObjectOf smallest number_moved → ⊥
   pub word : ObjectOf keeps word_unmoved → ⊥
   pub temporary : ObjectOf smallest counts_an_argument → ⊥
+
+-- Two more, nearer to those units: arguments that are counted differently on both sides, and a procedure that is there and not offered.
+
+-- procedures 0 and 1 give 7 and 8, and procedure 0 alone is offered
+abbrev pub offers_one : SourceUnit
+offers_one = record { name = 1; words = 0; wants = []; procs = record { args = 0; body = num 7 } ∷ record { args = 0; body = num 8 } ∷ []; offers = 0 ∷ [] }
+
+-- the unit wants a procedure with one argument
+abbrev pub other_want_arguments : Object
+other_want_arguments = record { name = 1; words = 0; wants = record { unit = 2; proc = 0; args = 2 } ∷ []; offers = asks_object.offers; code = asks_object.code; fits = asks_object.fits }
+
+-- procedure 1 is there, behind procedure 0, but the unit doesn't offer it
+abbrev pub offers_unoffered : Object
+offers_unoffered = object 1 0 (offer_0 ∷ record { proc = 1; args = 0; at = 16 } ∷ []) (smallest_code ++ (16 ∷ 0 ∷ 14 ∷ 5 ∷ 9 ∷ 0 ∷ 1 ∷ 8 ∷ 15 ∷ 5 ∷ 10 ∷ 0 ∷ [])) []
+
+pub record NearlyRight : Type 0 where
+  pub want_arguments : ObjectOf asks other_want_arguments → ⊥
+  pub unoffered : ObjectOf offers_one offers_unoffered → ⊥

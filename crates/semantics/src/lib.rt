@@ -6,11 +6,12 @@ pub mod laws;
 pub mod linked;
 pub mod promise;
 
-ghost use Rattle.semantics.specs.Cases.{WorkedCases};
+ghost use Rattle.semantics.specs.Cases.{WorkedCases, WorkedFrames};
 
 pub use linked::run_linked;
 
 // The table of worked cases holds of the definitions.
 pub fn worked_cases()
-    ensures { WorkedCases }
+    ensures cases { WorkedCases }
+    ensures frames { WorkedFrames }
 {}

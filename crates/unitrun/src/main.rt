@@ -40,9 +40,9 @@ tape that is given on standard input in decimal. Prints each word that it puts
 out, and as the last line how it ended: done, no calls, no room, wild, more or
 out full.
 
-  --room N     words of stack for the frames of calls (65536)
-  --calls N    calls allowed in all (1000000)
-  --steps N    steps of the machine allowed (4294967295)
+  --room N     room for frames (65536)
+  --calls N    calls allowed (1000000)
+  --steps N    steps allowed (4294967295)
   --image      only links: prints the image, and the number of words of all units
   --code FILE  runs an image as --image prints it
   --help       prints this

@@ -5,10 +5,10 @@ use Rattle.linker.proofs.laying.lay.Goals as goal
 
 pub loop-object-preserved : goal.loop-object-preserved
 loop-object-preserved c =
-    let given = subst (λ o. NextSays c.loop-object.reader c.next.new.self (Ok o)) c.in-Some.is c.in_ok-object.ensures in
+    let given = subst (λ o. NextSays c.loop-object.reader c.next.new.self (Ok o)) c.in-Some.is c.in_ok-object.ensures.says in
     laid_more c.in_ok-reader.reader c.loop-object.reader c.next.new.self c.loop-object.table c.loop-object.count c.loop-object.code_at c.loop-object.words_at c.in-Some.object c.loop-object.invariant given (omega arith) c.behind-next_code.result c.behind-next_code.ensures
 
 pub returns : goal.returns
 returns c =
-    let end = subst (λ o. NextSays c.loop-object.reader c.next.new.self (Ok o)) c.in_default.is c.in_ok-object.ensures in
+    let end = subst (λ o. NextSays c.loop-object.reader c.next.new.self (Ok o)) c.in_default.is c.in_ok-object.ensures.says in
     laid_all c.args.row.now c.in_ok-reader.reader c.loop-object.reader c.loop-object.table c.loop-object.count c.loop-object.code_at c.loop-object.words_at c.loop-object.invariant c.in_ok-reader.ensures end.0 (omega arith)

@@ -1,5 +1,5 @@
-use Rattle.semantics.proofs.Wrong.{wrong}
+use Rattle.semantics.proofs.Wrong.{wrong, nearly_right}
 use Rattle.semantics.proofs.examples.wrong_objects_are_none.Goals as goal
 
 pub returns : goal.returns
-returns c = wrong
+returns c = record { wrong = wrong; nearly = nearly_right }
