@@ -1,104 +1,101 @@
 // Sets of units, as reference/README.md has the grammar of their files. What a file lacks reads as 0 and as an empty list here: the reference
 // program reads the same files, and refuses it.
+ghost use Rattle.std.specs.Iterator.{at_most};
+
+use std::alloc::{AllocError, Global};
 
 // Units in their rows, what they run on, and how they are to be linked: in each of the orders, and in the first of them with an unrelated unit
-// at a place. `units` and `orders` begin where the first of them stands, and go on to the end of the file.
-#[derive(Clone, Copy)]
+// at a place. An order has the units' numbers, counted from 0.
+#[derive(Debug, Drop, PartialEq, Eq)]
 pub struct Set<'a> {
-    pub count: u32,
-    pub units: &'a [u32],
+    pub units: Vec<&'a [u32]>,
     pub tape: &'a [u32],
     pub room: u32,
     pub calls: u32,
-    pub order_count: u32,
-    pub orders: &'a [u32],
+    pub orders: Vec<&'a [u32]>,
     pub extra: &'a [u32],
     pub place: u32,
 }
 
 impl<'a> Set<'a> {
-    // The row of a unit, counted from 0.
+    // The row of a unit.
     pub fn unit(&self, number: u32) -> &'a [u32] {
-        let mut reader = Reader::new(self.units);
-        reader.skip_lists(number);
-        reader.list()
+        self.units.get(number as usize).copied().unwrap_or_default()
     }
 
-    // An order, counted from 0: the units' numbers.
-    pub fn order(&self, number: u32) -> &'a [u32] {
-        let mut reader = Reader::new(self.orders);
-        reader.skip_orders(number, self.count);
-        reader.words(self.count)
+    pub fn first_order(&self) -> &'a [u32] {
+        self.orders.first().copied().unwrap_or_default()
     }
 }
 
-// What is left of a file of sets.
-#[derive(Clone, Copy)]
-pub struct Reader<'a> {
-    rest: &'a [u32],
+// The sets of a file that are not read yet.
+#[derive(Debug, Drop, PartialEq, Eq)]
+pub struct Sets<'a> {
+    left: u32,
+    words: Words<'a>,
+    alloc: Global,
 }
 
-impl<'a> Reader<'a> {
-    pub fn new(words: &'a [u32]) -> Reader<'a> {
-        Reader { rest: words }
+impl<'a> Sets<'a> {
+    pub fn new(alloc: Global, file: &'a [u32]) -> Sets<'a> {
+        let mut words = Words(file);
+        Sets {
+            left: words.number(),
+            words,
+            alloc,
+        }
     }
+}
 
-    pub fn number(&mut self) -> u32 {
-        let Some((first, rest)) = self.rest.split_first() else {
-            return 0;
-        };
-        self.rest = rest;
-        *first
+impl<'a> Iterator for Sets<'a> {
+    type Item = Result<Set<'a>, AllocError>;
+
+    ghost remaining = { λ s. at_most s.left };
+
+    fn next(&mut self) -> Option<Result<Set<'a>, AllocError>> {
+        self.left = self.left.checked_sub(1)?;
+        Some(self.words.set(self.alloc))
+    }
+}
+
+// What is left of a file's words.
+#[derive(Clone, Copy, PartialEq, Eq, Debug)]
+struct Words<'a>(&'a [u32]);
+
+impl<'a> Words<'a> {
+    fn number(&mut self) -> u32 {
+        self.0.split_off_first().copied().unwrap_or(0)
     }
 
     // So many words.
-    fn words(&mut self, n: u32) -> &'a [u32] {
-        let (taken, rest) = self.rest.split_at(self.rest.len().min(n as usize));
-        self.rest = rest;
+    fn take(&mut self, n: u32) -> &'a [u32] {
+        let (taken, rest) = self.0.split_at(self.0.len().min(n as usize));
+        self.0 = rest;
         taken
     }
 
     // A length and so many words.
     fn list(&mut self) -> &'a [u32] {
         let n = self.number();
-        self.words(n)
+        self.take(n)
     }
 
-    fn skip_lists(&mut self, count: u32) {
-        for _ in 0..count {
-            let _ = self.list();
-        }
-    }
-
-    // Skips so many orders of n units.
-    fn skip_orders(&mut self, count: u32, n: u32) {
-        for _ in 0..count {
-            let _ = self.words(n);
-        }
-    }
-
-    pub fn set(&mut self) -> Set<'a> {
+    fn set(&mut self, alloc: Global) -> Result<Set<'a>, AllocError> {
         let count = self.number();
-        let units = self.rest;
-        self.skip_lists(count);
+        let units = (0..count).map(|_| self.list()).collect(alloc)?;
         let tape = self.list();
         let room = self.number();
         let calls = self.number();
         let order_count = self.number();
-        let orders = self.rest;
-        self.skip_orders(order_count, count);
-        let extra = self.list();
-        let place = self.number();
-        Set {
-            count,
+        let orders = (0..order_count).map(|_| self.take(count)).collect(alloc)?;
+        Ok(Set {
             units,
             tape,
             room,
             calls,
-            order_count,
             orders,
-            extra,
-            place,
-        }
+            extra: self.list(),
+            place: self.number(),
+        })
     }
 }

@@ -1,156 +1,143 @@
-// What comes of a set in one of its ways of linking: its units are compiled, each alone, and their objects linked and run. `row` is lent for
-// the objects, `work` for all else, `out` for what is put out. Where too few words are lent the ending says so.
+// What comes of a set in one of its ways of linking: its units are compiled, each alone, and their objects linked and run. Where too few words
+// are lent the ending says so.
 use crate::sets::Set;
-use compiler::{Compiled, compile};
-use machine::Ran;
+use compiler::compile;
+use machine::{Ran, Status};
 use rows::units::Refusal;
-use semantics::linked::{NotLinked, run_linked};
-use std::fmt;
+use semantics::linked::{RunError, run_linked};
+use std::alloc::{AllocError, Global};
+use std::{fmt, iter};
+use thiserror::Error;
 
-// The words put out, and how the run ended or why there was none.
-#[derive(Clone, Copy)]
-pub struct Outcome<'a> {
-    out: &'a [u32],
-    ending: &'static str,
+// How many words are lent: more than any set wants.
+const OBJECT_WORDS: usize = 131_072;
+
+const WORK_WORDS: usize = 262_144;
+
+const OUT_WORDS: usize = 4096;
+
+// An image's words in front of the units' code: a call of the first procedure and a halt, of two words each.
+const HEAD_WORDS: usize = 4;
+
+// A way of linking: units in an order, without the unrelated unit or with it.
+#[derive(Clone, Copy, PartialEq, Eq, Debug)]
+pub enum Way<'a> {
+    Order(&'a [u32]),
+    WithExtra(&'a [u32]),
 }
 
-impl Outcome<'_> {
-    pub fn same_as(&self, other: &Outcome<'_>) -> bool {
-        self.out == other.out && self.ending == other.ending
-    }
+// The words put out, and how the run ended.
+#[derive(Debug, Drop, PartialEq, Eq)]
+pub struct Outcome {
+    out: Vec<u32>,
+    status: Status,
 }
 
-impl fmt::Display for Outcome<'_> {
+impl fmt::Display for Outcome {
     fn fmt<W: fmt::Write>(&self, f: &mut fmt::Formatter<W>) -> fmt::Result {
-        for word in self.out {
+        for word in &self.out {
             write!(f, "{word} ")?;
         }
-        f.write_str(self.ending)
+        write!(f, "{}", self.status)
     }
 }
 
-// What comes of the set in a way: in the order of this number or, behind all orders, in the first with the unrelated unit.
-pub fn run_way<'o>(
-    set: &Set<'_>,
-    way: u32,
-    row: &mut [u32],
-    work: &mut [u32],
-    out: &'o mut [u32],
-) -> Outcome<'o> {
-    let (n, ending) = match compile_way(set, way, row, work) {
-        Err(Refusal::NoUnit) => (0, "no unit"),
-        Err(Refusal::Short) => (0, "short"),
-        Ok(size) => run(set, row, size, work, out),
-    };
-    let n = n.min(out.len());
-    Outcome {
-        out: &out[0..n],
-        ending,
-    }
+// Why nothing came of a set.
+#[derive(Clone, Copy, Debug, Error, PartialEq, Eq)]
+pub enum Failure {
+    #[error(transparent)]
+    Refused(#[from] Refusal),
+    #[error(transparent)]
+    NotRun(#[from] RunError),
+    #[error("out of memory")]
+    NoMemory(#[from] AllocError),
 }
 
-// Whether in all other ways the same comes of the set as in the first.
-pub fn ways_agree(
-    set: &Set<'_>,
-    first: &Outcome<'_>,
-    row: &mut [u32],
-    work: &mut [u32],
-    out: &mut [u32],
-) -> bool {
-    for number in 0..set.order_count {
-        if !run_way(set, number + 1, row, work, out).same_as(first) {
-            return false;
+// What a set is worked out with: the objects of its units, one behind the other, and the words that are lent for an object, for what is put out,
+// and for all else.
+#[derive(Debug, Drop)]
+pub struct Bench {
+    objects: Vec<u32>,
+    object: Vec<u32>,
+    out: Vec<u32>,
+    work: Vec<u32>,
+    alloc: Global,
+}
+
+impl Bench {
+    pub fn new(alloc: Global) -> Result<Bench, AllocError> {
+        Ok(Bench {
+            objects: Vec::new(alloc),
+            object: vec![in alloc; 0; OBJECT_WORDS]?,
+            out: vec![in alloc; 0; OUT_WORDS]?,
+            work: vec![in alloc; 0; WORK_WORDS]?,
+            alloc,
+        })
+    }
+
+    // What comes of the set in a way.
+    pub fn outcome(&mut self, set: &Set<'_>, way: Way<'_>) -> Result<Outcome, Failure> {
+        self.compile_way(set, way)?;
+        let ran = self.run(set)?;
+        Ok(Outcome {
+            out: self.out.iter().take(ran.put).copied().collect(self.alloc)?,
+            status: ran.status,
+        })
+    }
+
+    // Whether in all other ways the same comes of the set as in the first order.
+    pub fn agrees(&mut self, set: &Set<'_>, first: &Result<Outcome, Failure>) -> bool {
+        set.orders
+            .iter()
+            .skip(1)
+            .map(|order| Way::Order(order))
+            .chain(iter::once(Way::WithExtra(set.first_order())))
+            .all(|way| self.outcome(set, way) == *first)
+    }
+
+    // Compiles the units for a way, each alone.
+    fn compile_way(&mut self, set: &Set<'_>, way: Way<'_>) -> Result<(), Failure> {
+        self.objects.clear();
+        match way {
+            Way::Order(order) => self.compile_all(set, order),
+            Way::WithExtra(order) => {
+                let (before, behind) = order.split_at(order.len().min(set.place as usize));
+                self.compile_all(set, before)?;
+                self.compile_one(set.extra)?;
+                self.compile_all(set, behind)
+            }
         }
     }
-    true
-}
 
-// Compiles the units for a way, each alone; how many words of `row` their objects have, or why there are none.
-fn compile_way(
-    set: &Set<'_>,
-    way: u32,
-    row: &mut [u32],
-    work: &mut [u32],
-) -> Result<usize, Refusal> {
-    if way < set.order_count {
-        return compile_all(set, set.order(way), row, 0, work);
+    // Compiles the units of these numbers.
+    fn compile_all(&mut self, set: &Set<'_>, numbers: &[u32]) -> Result<(), Failure> {
+        for number in numbers {
+            self.compile_one(set.unit(*number))?;
+        }
+        Ok(())
     }
-    let order = set.order(0);
-    let (before, behind) = order.split_at(order.len().min(set.place as usize));
-    let size = compile_all(set, before, row, 0, work)?;
-    let size = compile_one(set.extra, row, size, work)?;
-    compile_all(set, behind, row, size, work)
-}
 
-// Compiles the units of these numbers.
-fn compile_all(
-    set: &Set<'_>,
-    numbers: &[u32],
-    row: &mut [u32],
-    size: usize,
-    work: &mut [u32],
-) -> Result<usize, Refusal> {
-    let mut size = size;
-    for number in numbers {
-        size = compile_one(set.unit(*number), row, size, work)?;
+    // Compiles a unit and puts its object behind the others.
+    fn compile_one(&mut self, unit: &[u32]) -> Result<(), Failure> {
+        let size = compile(unit, &mut self.object, &mut self.work)?;
+        self.objects
+            .extend_from_slice(self.object.get(..size).unwrap_or_default())?;
+        Ok(())
     }
-    Ok(size)
-}
 
-// Compiles a unit and puts its object behind the first `size` words of `row`; how many there are then.
-fn compile_one(
-    unit: &[u32],
-    row: &mut [u32],
-    size: usize,
-    work: &mut [u32],
-) -> Result<usize, Refusal> {
-    let size = size.min(row.len());
-    let (_, free) = row.split_at_mut(size);
-    match compile(unit, free, work) {
-        Compiled::Object(n) => Ok(size.saturating_add(n)),
-        Compiled::NoUnit => Err(Refusal::NoUnit),
-        Compiled::Short => Err(Refusal::Short),
-    }
-}
-
-// Links the objects in the first `size` words of `row` and runs them, for as many steps as can be asked for.
-fn run(
-    set: &Set<'_>,
-    row: &[u32],
-    size: usize,
-    work: &mut [u32],
-    out: &mut [u32],
-) -> (usize, &'static str) {
-    let size = size.min(row.len());
-    let middle = work.len().min(size + 4);
-    let (image, memory) = work.split_at_mut(middle);
-    let ran = run_linked(
-        &row[0..size],
-        set.room,
-        set.tape,
-        set.calls,
-        u32::MAX,
-        image,
-        out,
-        memory,
-    );
-    ended(ran)
-}
-
-// How many words were put out, and the ending as the reference program says it.
-fn ended(ran: Result<Ran, NotLinked>) -> (usize, &'static str) {
-    match ran {
-        Ok(Ran::Done(n)) => (n, "done"),
-        Ok(Ran::NoCalls(n)) => (n, "no calls"),
-        Ok(Ran::NoRoom(n)) => (n, "no room"),
-        Err(NotLinked::Twice) => (0, "twice"),
-        Err(NotLinked::Missing) => (0, "missing"),
-        // what the reference program has no words for
-        Ok(Ran::Wild(n)) => (n, "wild"),
-        Ok(Ran::More(n)) => (n, "more"),
-        Ok(Ran::OutFull) => (0, "out full"),
-        Ok(Ran::Small) => (0, "small"),
-        Err(NotLinked::NoObjects) => (0, "no objects"),
-        Err(NotLinked::NoSpace) => (0, "no space"),
+    // Links the objects and runs them, for as many steps as can be asked for.
+    fn run(&mut self, set: &Set<'_>) -> Result<Ran, RunError> {
+        let middle = self.work.len().min(self.objects.len() + HEAD_WORDS);
+        let (image, memory) = self.work.split_at_mut(middle);
+        run_linked(
+            &self.objects,
+            set.room,
+            set.tape,
+            set.calls,
+            u32::MAX,
+            image,
+            &mut self.out,
+            memory,
+        )
     }
 }

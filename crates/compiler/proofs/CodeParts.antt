@@ -7,17 +7,16 @@ use Rattle.rows.specs.Units.{Expr, num, arg, word, op, if, keep, then, out, next
 use Rattle.rows.specs.Formed.{takes, formed, formed_args}
 use Rattle.rows.specs.Frames.{height, heights}
 use Rattle.rows.specs.Signs.{part_count, sign_of, parts}
-use Rattle.rows.specs.declared.signs.Sign.{Sign}
-use Rattle.rows.specs.declared.signs.Sign.TheVariants.{Number, Argument, Word, Operation, If, Keep, Then, Out, Next, Call}
-use Rattle.rows.specs.declared.signs.Operation.{Operation as OperationSign}
-use Rattle.rows.specs.declared.signs.Callee.{Callee}
 use Rattle.rows.proofs.Decided.{T-parts}
 use Rattle.rows.proofs.ExprParts.{op_of_sign}
+use Rattle.rows.specs.declared.signs.Sign.{Sign}
+use Rattle.rows.specs.declared.signs.Sign.TheVariants.{Number, Argument, Word, Operation, If, Keep, Then, Out, Next, Call}
+use Rattle.rows.specs.declared.operations.Operation.{Operation as OperationSign}
+use Rattle.rows.specs.declared.signs.Callee.{Callee}
 use Rattle.machine.specs.Instructions as machine
 use Rattle.compiler.specs.Instructions.{in_code, of_want, instr}
 use Rattle.compiler.specs.Code.{proc_at, callee, code_expr, code_args}
-use Rattle.compiler.specs.WritingExpressions.{callee_operand, CalleesOf, own_instruction, Simple}
-use Rattle.compiler.specs.declared.names.Callees.{Callees}
+use Rattle.compiler.specs.WritingExpressions.{Callees, callee_operand, CalleesOf, own_instruction, Simple}
 
 taken_there : (qs : List Proc) (n k : ℕ) → T (takes (option_map (λ (q : Proc). q.args) (slice_get qs n)) k) → n < length qs
 taken_there [] n k h = absurd h
@@ -29,7 +28,7 @@ pub callee_same : (p : Callees) (u : SourceUnit) (c k : ℕ) → CalleesOf p u �
 callee_same p u c k h t = rw h.wants (go (ltb c (length u.wants)) t)
   where
     go : (b : Bool) → T (takes (cond b (option_map (λ (w : Want). w.args) (slice_get u.wants c)) (option_map (λ (q : Proc). q.args) (slice_get u.procs (c - length u.wants)))) k) →
-        cond b (of_want c) (in_code (proc_at u.procs (c - length u.wants))) ≡ cond b (of_want c) (in_code (get_or p.starts.now (c - length u.wants) 0))
+        cond b (of_want c) (in_code (proc_at u.procs (c - length u.wants))) ≡ cond b (of_want c) (in_code (get_or p.starts (c - length u.wants) 0))
     go true t = refl
     go false t = ap in_code (sym (h.starts (c - length u.wants) (taken_there u.procs (c - length u.wants) k t)))
 

@@ -1,13 +1,14 @@
 -- What the code of each kind of expression does, if the code of its parts does what the parts do.
 use Rattle.std.proofs.Common.{◌≡◌, ℕ, zero, suc, ◌+◌, ◌^◌, ◌<◌, ◌≤◌, List, [], ◌∷◌, length, get_or, take, Some, Option, sym, refl, ap, ◌∙◌, subst, arith}
 use Rattle.std.specs.List.{slice_get}
-use Rattle.rows.specs.Operations.{Op, Add, Sub, Mul, Div, Less, Same, operations, number, apply}
+use Rattle.rows.specs.Operations.{Op, number, apply}
 use Rattle.rows.specs.Units.{Expr, num, arg, word, op, if, keep, then, out, next}
 use Rattle.rows.specs.Frames.{height}
 use Rattle.machine.specs.Machine.{Machine, at, push}
 use Rattle.machine.specs.Instructions.{Opcode, Push, Arg, Load, Store, Operate, JumpIfZero, Jump, Out, Next, Pop, act, operate}
 use Rattle.semantics.specs.Runs.{State, value, on, choose, eval, word_at}
 use Rattle.semantics.specs.Relation.{total}
+use Rattle.rows.proofs.ExprParts.{nth_number}
 use Rattle.compiler.specs.Instructions.{Operand, plain, in_code, in_words, Place, placed_word}
 use Rattle.compiler.specs.Code.{size}
 use Rattle.compiler.specs.Simulation.{Calls, Working}
@@ -35,14 +36,6 @@ working {vs = vs} {m = m} {m₁ = m₁} k w few a = record {
 
 pub narrow : {shape vs : List ℕ} {p room h : ℕ} {s : State} {m : Machine} (k : ℕ) → Working shape p vs room h s m → k ≤ h → Working shape p vs room k s m
 narrow k w few = working k w (omega arith) (nothing w.represents w.pc)
-
-operation_there : (o : Op) → slice_get operations (number o) ≡ Some o
-operation_there Add = refl
-operation_there Sub = refl
-operation_there Mul = refl
-operation_there Div = refl
-operation_there Less = refl
-operation_there Same = refl
 
 module _ (code shape : List ℕ) (i : ℕ) (l : Place) (vs : List ℕ) (room left : ℕ) (x : Calls) where
   -- code at a does what the expression does
@@ -95,7 +88,7 @@ module _ (code shape : List ℕ) (i : ℕ) (l : Place) (vs : List ℕ) (room lef
           ComesTo code shape (l.code + (a + (size y + (size z + 2)))) s.left m m₂ (value (apply o v v₂) t)
       third v r m₁ few c v₂ t m₂ few₂ c₂ =
           act_comes (apply o v v₂) (l.code + (a + (size y + (size z + 2)))) s.left there (append (omega arith) c c₂) (omega arith)
-          (subst (λ (q : Option Op). Stacked shape (m₂.pc + 2) (apply o v v₂ ∷ []) t m (operate m₂ q)) (sym (operation_there o))
+          (subst (λ (q : Option Op). Stacked shape (m₂.pc + 2) (apply o v v₂ ∷ []) t m (operate m₂ q)) (sym (nth_number o))
           (operates o v v₂ (omega arith) (omega arith) (append (omega arith) c c₂))) (omega arith)
 
       second : (v : ℕ) (r : State) (m₁ : Machine) → r.left ≤ s.left → Stacked shape (l.code + (a + size y)) (v ∷ []) r m m₁ →

@@ -9,7 +9,7 @@ use Rattle.semantics.specs.Relation.{run_unit, Simulates, SimulatesUnit, ObjectO
 use Rattle.compiler.specs.Instructions.{Operand, plain, in_code, in_words, of_want, Instruction, instr, code_words, fit_operand, code_fits}
 use Rattle.compiler.specs.Code.{code_unit, offers_of, object}
 use Rattle.compiler.specs.Correct.{Compiles}
-use Rattle.compiler.proofs.Tests.{together}
+use Rattle.rows.proofs.Decided.{T-both}
 use Rattle.compiler.proofs.Units.{own_do}
 use Rattle.compiler.proofs.Offers.{offers_all, offers_found, offers_nothing_else, offers_begin}
 use Rattle.compiler.proofs.Lengths.{size_procs, proc_at_most, size_procs_row, row_length}
@@ -19,9 +19,9 @@ use Rattle.compiler.proofs.Weights.{short_row}
 -- a fit of an operand, and those of the instructions behind it
 operand_inside : (n k a : ℕ) (x : Operand) (fs : List Fit) → Sane k x → a < n → T (fits_inside n k fs) → T (fits_inside n k (fit_operand a x fs))
 operand_inside n k a (plain m) fs h b r = r
-operand_inside n k a (in_code m) fs h b r = together (ltb a n) (fits_inside n k fs) (lt→ltb a n b) r
-operand_inside n k a (in_words m) fs h b r = together (ltb a n) (fits_inside n k fs) (lt→ltb a n b) r
-operand_inside n k a (of_want m) fs h b r = together (ltb a n) (ltb m k && fits_inside n k fs) (lt→ltb a n b) (together (ltb m k) (fits_inside n k fs) (lt→ltb m k h) r)
+operand_inside n k a (in_code m) fs h b r = T-both (ltb a n) (fits_inside n k fs) (lt→ltb a n b) r
+operand_inside n k a (in_words m) fs h b r = T-both (ltb a n) (fits_inside n k fs) (lt→ltb a n b) r
+operand_inside n k a (of_want m) fs h b r = T-both (ltb a n) (ltb m k && fits_inside n k fs) (lt→ltb a n b) (T-both (ltb m k) (fits_inside n k fs) (lt→ltb m k h) r)
 
 fits_in_code : (n k a : ℕ) (is : List Instruction) → AllSane k is → a + length (code_words is) ≤ n → T (fits_inside n k (code_fits a is))
 fits_in_code n k a [] h b = tt
@@ -36,8 +36,8 @@ module _ (s : List ℕ) (u : SourceUnit) (r : UnitRow s u) where
       (omega (arith, row_length s u r)) (omega (arith, row_length s u r, code_short))
 
   object_sound : T (sound (object u))
-  object_sound = together (leb u.words 4096) _ (le→leb u.words 4096 r.words)
-      (together (offers_inside (length (code_words (code_unit u))) (offers_of u u.offers)) _ (offers_begin u u.offers r.offers)
+  object_sound = T-both (leb u.words 4096) _ (le→leb u.words 4096 r.words)
+      (T-both (offers_inside (length (code_words (code_unit u))) (offers_of u u.offers)) _ (offers_begin u u.offers r.offers)
       (fits_in_code (length (code_words (code_unit u))) (length u.wants) 0 (code_unit u) unit_sane (omega arith)))
 
   -- so its row is one that a linker accepts
@@ -46,7 +46,7 @@ module _ (s : List ℕ) (u : SourceUnit) (r : UnitRow s u) where
     row = append-nil (row_object (object u));
     few = omega arith;
     short = omega (arith, short_row s u r, r.short);
-    inside = together (sound (object u)) true object_sound tt;
+    inside = T-both (sound (object u)) true object_sound tt;
   }
 
   simulates : SimulatesUnit u (object u)

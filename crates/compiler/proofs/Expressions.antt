@@ -11,7 +11,7 @@ use Rattle.semantics.specs.Relation.{total}
 use Rattle.compiler.specs.Instructions.{Place}
 use Rattle.compiler.specs.Code.{size, size_args, callee, code_expr, code_args}
 use Rattle.compiler.specs.Simulation.{Calls, CallsDo, Working}
-use Rattle.compiler.proofs.Tests.{apart}
+use Rattle.rows.proofs.Decided.{T-parts}
 use Rattle.compiler.proofs.Lying.{At, Here, here_inside, split_expr, split_args, length_expr}
 use Rattle.compiler.proofs.Stack.{nothing}
 use Rattle.compiler.proofs.Outcomes.{ComeTo, fewer, ends_at, come_at, goes_with_all, first_goes, more_go}
@@ -56,23 +56,23 @@ module _ (u : SourceUnit) (code shape : List ℕ) (i : ℕ) (l : Place) (short :
     expr_does (op o y z) a h f =
         let p = split_expr code l u y _ a h in
         let q = split_expr code l u z _ (a + size y) p.1 in
-        let r = apart (formed u (length vs) y) (formed u (length vs) z) f in
+        let r = T-parts (formed u (length vs) y) (formed u (length vs) z) f in
         op_does code shape i l vs room left x o y z a q.1.0 (expr_does y a p.0 r.0) (expr_does z (a + size y) q.0 r.1)
     expr_does (if c y z) a h f =
         let p = split_expr code l u c _ a h in
         let q = split_expr code l u y _ (a + size c + 2) p.1.1 in
-        let r = apart (formed u (length vs) c) (formed u (length vs) y && formed u (length vs) z) f in
-        let t = apart (formed u (length vs) y) (formed u (length vs) z) r.1 in
+        let r = T-parts (formed u (length vs) c) (formed u (length vs) y && formed u (length vs) z) f in
+        let t = T-parts (formed u (length vs) y) (formed u (length vs) z) r.1 in
         let inside = here_inside code l (code_expr u (a + size c + 2 + size y + 2) z) (a + size c + 2 + size y + 2) (omega (arith, q.1.0.inside)) q.1.1 in
         if_does code shape i l vs room left x c y z a short (rw length_expr at inside) p.1.0 q.1.0
         (expr_does c a p.0 r.0) (expr_does y (a + size c + 2) q.0 t.0) (expr_does z (a + size c + 2 + size y + 2) q.1.1 t.1)
     expr_does (keep j e) a h f =
         let p = split_expr code l u e _ a h in
-        let q = apart (ltb j u.words) (formed u (length vs) e) f in
+        let q = T-parts (ltb j u.words) (formed u (length vs) e) f in
         keep_does code shape i l vs room left x u.words unit words j e a (ltb→lt j u.words q.0) p.1.0 (expr_does e a p.0 q.1)
     expr_does (then y z) a h f =
         let p = split_expr code l u y _ a h in
-        let r = apart (formed u (length vs) y) (formed u (length vs) z) f in
+        let r = T-parts (formed u (length vs) y) (formed u (length vs) z) f in
         then_does code shape i l vs room left x y z a p.1.0 (expr_does y a p.0 r.0) (expr_does z (a + size y + 2) p.1.1 r.1)
     expr_does (out e) a h f =
         let p = split_expr code l u e _ a h in
@@ -80,12 +80,12 @@ module _ (u : SourceUnit) (code shape : List ℕ) (i : ℕ) (l : Place) (short :
     expr_does next a h f = next_does code shape i l vs room left x a h.0
     expr_does (call c es) a h f =
         let p = split_args code l u es _ a h in
-        let q = apart (takes (arity u c) (count es)) (formed_args u (length vs) es) f in
+        let q = T-parts (takes (arity u c) (count es)) (formed_args u (length vs) es) f in
         call_does c es a q.0 p.1.0 (args_do es a p.0 q.1)
 
     args_do : (es : Exprs) (a : ℕ) → Here code l a (code_args u a es) → T (formed_args u (length vs) es) → AllDo es a
     args_do nil a h f = λ s m b w. (m, (0, refl), omega arith, refl, nothing w.represents (omega arith))
     args_do (cons e es) a h f =
         let p = split_expr code l u e _ a h in
-        let r = apart (formed u (length vs) e) (formed_args u (length vs) es) f in
+        let r = T-parts (formed u (length vs) e) (formed_args u (length vs) es) f in
         cons_do e es a (expr_does e a p.0 r.0) (args_do es (a + size e) p.1 r.1)

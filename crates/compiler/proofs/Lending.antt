@@ -1,28 +1,13 @@
 -- Instructions that a writer has written one behind the other, and an operand filled in afterwards.
-use Rattle.std.proofs.Common.{◌≡◌, ℕ, ◌+◌, ◌-◌, ◌<◌, ◌≤◌, List, [], ◌∷◌, ◌++◌, length, take, drop, set, Some, None, Option, sym, refl, ap, ◌∙◌, subst, ap₂, arith, length-append, length-set}
-use borrow.Rule.Slice.PartMut.{put_mid}
-use Rattle.std.proofs.lemmas.List.{append-nil, append_assoc, take_at, drop_at, drop-drop, set_at, set-append_left, take-append-drop, length-take-le, take_more_set}
+use Rattle.std.proofs.Common.{◌≡◌, ℕ, ◌+◌, ◌≤◌, List, [], ◌∷◌, ◌++◌, length, set, Some, None, Option, sym, refl, ap, ◌∙◌, subst, arith, length-append}
+use Rattle.std.proofs.lemmas.List.{append-nil, append_assoc, set_at}
 use Rattle.rows.specs.Objects.{Fit}
 use Rattle.rows.specs.ObjectRows.{row_fits}
 use Rattle.machine.specs.Instructions.{Opcode}
-use Rattle.linker.proofs.Lent.{part_behind}
-use Rattle.compiler.specs.Instructions.{Operand, plain, in_code, in_words, of_want, Instruction, instr, operand_word, code_words, fit_operand, code_fits, opcode_number}
-use Rattle.compiler.specs.Writing.{fit_of, State, Wrote}
-use Rattle.compiler.proofs.Lying.{words_append, length_words_append}
-
--- xs were written, and then ys into the part behind them
-pub first_then : (xs ys old mid part : List ℕ) (n m : ℕ) → n ≡ length xs → mid ≡ xs ++ drop n old → part ≡ ys ++ drop m (take (length mid - n) (drop n mid)) →
-    put_mid n (length mid - n) mid part ≡ (xs ++ ys) ++ drop (n + m) old
-first_then xs ys old mid part n m size first second =
-    ap (λ s. take n mid ++ s) (part_behind mid part ys n m second) ∙
-    (ap (λ s. s ++ (ys ++ drop m (drop n mid))) front ∙
-    (ap (λ s. xs ++ (ys ++ s)) (ap (drop m) behind ∙ drop-drop m n old) ∙ sym (append_assoc xs ys (drop (n + m) old))))
-  where
-    front : take n mid ≡ xs
-    front = ap (take n) first ∙ take_at xs (drop n old) n (sym size)
-
-    behind : drop n mid ≡ drop n old
-    behind = ap (drop n) first ∙ drop_at xs (drop n old) n (sym size)
+use Rattle.machine.specs.Opcodes.{opcode_number}
+use Rattle.compiler.specs.Instructions.{Operand, plain, in_code, in_words, of_want, Instruction, instr, operand_word, code_words, fit_operand, code_fits}
+use Rattle.compiler.specs.Writing.{fit_row, State, changed, Wrote, WroteOne}
+use Rattle.compiler.proofs.Lying.{words_append}
 
 row_fits-append : (fs gs : List Fit) → row_fits (fs ++ gs) ≡ row_fits fs ++ row_fits gs
 row_fits-append [] gs = refl
@@ -38,33 +23,27 @@ fits_append : (a b : ℕ) (is js : List Instruction) → a + length (code_words 
 fits_append a b [] js e = let z : a ≡ b = omega arith in ap (λ n. code_fits n js) z
 fits_append a b (instr o x ∷ is) js e = ap (fit_operand (a + 1) x) (fits_append (a + 2) b is js (omega arith)) ∙ fit_operand-append (a + 1) x (code_fits (a + 2) is) (code_fits b js)
 
+-- how long the code is then
+pub wrote_at : (is : List Instruction) (s s₁ : State) → Wrote is s s₁ → length s₁.code ≡ length s.code + length (code_words is)
+wrote_at is s s₁ w = ap (λ (xs : List ℕ). length xs) w.code ∙ length-append s.code (code_words is)
+
 -- nothing is written
 pub wrote_none : (s : State) → Wrote [] s s
-wrote_none s = record { at = omega arith; code = sym (append-nil (take s.at s.code)); fitted = omega arith; fits = sym (append-nil (take s.fitted s.fits)) }
+wrote_none s = record { code = sym (append-nil s.code); fits = sym (append-nil s.fits) }
 
 -- one list of instructions and then another
 pub wrote_more : (is js : List Instruction) (s s₁ s₂ : State) → Wrote is s s₁ → Wrote js s₁ s₂ → Wrote (is ++ js) s s₂
 wrote_more is js s s₁ s₂ w v = record {
-  at = omega (arith, w.at, v.at, length_words_append is js);
-  code = v.code ∙ (ap (λ xs. xs ++ code_words js) w.code ∙ (append_assoc (take s.at s.code) (code_words is) (code_words js) ∙ ap (λ xs. take s.at s.code ++ xs) (sym (words_append is js))));
-  fitted = omega (arith, w.fitted, v.fitted, ap (λ (xs : List ℕ). length xs) rows, length-append (row_fits (code_fits s.at is)) (row_fits (code_fits s₁.at js)));
-  fits = v.fits ∙ (ap (λ xs. xs ++ row_fits (code_fits s₁.at js)) w.fits ∙ (append_assoc (take s.fitted s.fits) (row_fits (code_fits s.at is)) (row_fits (code_fits s₁.at js)) ∙ ap (λ xs. take s.fitted s.fits ++ xs) (sym rows)));
+  code = v.code ∙ (ap (λ xs. xs ++ code_words js) w.code ∙ (append_assoc s.code (code_words is) (code_words js) ∙ ap (λ xs. s.code ++ xs) (sym (words_append is js))));
+  fits = v.fits ∙ (ap (λ xs. xs ++ row_fits (code_fits (length s₁.code) js)) w.fits ∙ (append_assoc s.fits (row_fits (code_fits (length s.code) is)) (row_fits (code_fits (length s₁.code) js)) ∙ ap (λ xs. s.fits ++ xs) (sym rows)));
 }
   where
-    rows : row_fits (code_fits s.at (is ++ js)) ≡ row_fits (code_fits s.at is) ++ row_fits (code_fits s₁.at js)
-    rows = ap row_fits (fits_append s.at s₁.at is js (sym w.at)) ∙ row_fits-append (code_fits s.at is) (code_fits s₁.at js)
+    rows : row_fits (code_fits (length s.code) (is ++ js)) ≡ row_fits (code_fits (length s.code) is) ++ row_fits (code_fits (length s₁.code) js)
+    rows = ap row_fits (fits_append (length s.code) (length s₁.code) is js (sym (wrote_at is s s₁ w))) ∙ row_fits-append (code_fits (length s.code) is) (code_fits (length s₁.code) js)
 
 -- the same by another list that is equal
 pub wrote_as : (is js : List Instruction) (s s₁ : State) → is ≡ js → Wrote is s s₁ → Wrote js s s₁
 wrote_as is js s s₁ e w = subst (λ ks. Wrote ks s s₁) e w
-
--- a word that is changed among the first n
-take_set_below : (n i v : ℕ) (xs : List ℕ) → i < n → n ≤ length xs → take n (set xs i v) ≡ set (take n xs) i v
-take_set_below n i v xs below inside =
-    let long = length-take-le n xs inside in
-    let less : i < length (take n xs) = omega arith in
-    ap (λ ys. take n (set ys i v)) (sym (take-append-drop n xs)) ∙
-    (ap (take n) (set-append_left (take n xs) (drop n xs) i v less) ∙ take_at (set (take n xs) i v) (drop n xs) n (simp length-set long))
 
 -- an operand that wants the same fit, in the place of another
 module _ (o : Opcode) (x y : Operand) (alike : (b : ℕ) (fs : List Fit) → fit_operand b x fs ≡ fit_operand b y fs) where
@@ -85,64 +64,42 @@ module _ (o : Opcode) (x y : Operand) (alike : (b : ℕ) (fs : List Fit) → fit
       long : length front ≡ i
       long = length-append q (code_words is ++ (opcode_number o ∷ [])) ∙ omega (arith, length-append (code_words is) (opcode_number o ∷ []))
 
-  pub filled_in : (is js : List Instruction) (s s₁ : State) (i : ℕ) → s.at ≤ length s.code → s₁.at ≤ length s₁.code → Wrote (is ++ (instr o x ∷ js)) s s₁ → i ≡ s.at + length (code_words is) + 1 →
-      Wrote (is ++ (instr o y ∷ js)) s (record { row = s₁.row; code = set s₁.code i (operand_word y); at = s₁.at; fits = s₁.fits; fitted = s₁.fitted })
-  filled_in is js s s₁ i before inside w place = record {
-    at = w.at ∙ ap (λ n. s.at + n) longer;
-    code =
-        take_set_below s₁.at i (operand_word y) s₁.code (omega (arith, w.at, length_words_append is (instr o x ∷ js))) inside ∙
-        (ap (λ xs. set xs i (operand_word y)) w.code ∙ words_alike (take s.at s.code) is js i (omega (arith, length-take-le s.at s.code before)));
-    fitted = w.fitted ∙ ap (λ fs. s.fitted + length (row_fits fs)) (fits_alike s.at is js);
-    fits = w.fits ∙ ap (λ fs. take s.fitted s.fits ++ row_fits fs) (fits_alike s.at is js);
+  pub filled_in : (is js : List Instruction) (s s₁ : State) (i : ℕ) → Wrote (is ++ (instr o x ∷ js)) s s₁ → i ≡ length s.code + length (code_words is) + 1 → Wrote (is ++ (instr o y ∷ js)) s (changed s₁ i (operand_word y))
+  filled_in is js s s₁ i w place = record {
+    code = ap (λ xs. set xs i (operand_word y)) w.code ∙ words_alike s.code is js i place;
+    fits = w.fits ∙ ap (λ fs. s.fits ++ row_fits fs) (fits_alike (length s.code) is js);
   }
-    where
-      longer : length (code_words (is ++ (instr o x ∷ js))) ≡ length (code_words (is ++ (instr o y ∷ js)))
-      longer = length_words_append is (instr o x ∷ js) ∙ sym (length_words_append is (instr o y ∷ js))
 
--- two or three words that are set behind the first n
-pub take_two_set : (n x y : ℕ) (xs : List ℕ) → n + 2 ≤ length xs → take (n + 2) (set (set xs n x) (n + 1) y) ≡ take n xs ++ (x ∷ y ∷ [])
-take_two_set n x y xs long =
-    let e : n + 2 ≡ n + 1 + 1 = omega arith in
-    let one : n < length xs = omega arith in
-    let two : n + 1 < length (set xs n x) = simp length-set (omega arith) in
-    ap (λ m. take m (set (set xs n x) (n + 1) y)) e ∙ (take_more_set (set xs n x) (n + 1) y two ∙ (ap (λ s. s ++ (y ∷ [])) (take_more_set xs n x one) ∙ append_assoc (take n xs) (x ∷ []) (y ∷ [])))
+-- an operand wants at most one fit, and a number that stays as it is none
+pub few_fits : (a : ℕ) (x : Operand) → length (row_fits (fit_operand a x [])) ≤ 3
+few_fits a (plain n) = omega arith
+few_fits a (in_code n) = omega arith
+few_fits a (in_words n) = omega arith
+few_fits a (of_want n) = omega arith
 
-pub take_three_set : (n x y z : ℕ) (xs : List ℕ) → n + 3 ≤ length xs → take (n + 3) (set (set (set xs n x) (n + 1) y) (n + 2) z) ≡ take n xs ++ (x ∷ y ∷ z ∷ [])
-take_three_set n x y z xs long =
-    let e : n + 3 ≡ n + 2 + 1 = omega arith in
-    let three : n + 2 < length (set (set xs n x) (n + 1) y) = simp length-set (omega arith) in
-    ap (λ m. take m (set (set (set xs n x) (n + 1) y) (n + 2) z)) e ∙ (take_more_set (set (set xs n x) (n + 1) y) (n + 2) z three ∙ (ap (λ s. s ++ (z ∷ [])) (take_two_set n x y xs (omega arith)) ∙ append_assoc (take n xs) (x ∷ y ∷ []) (z ∷ [])))
+-- how much one instruction adds
+pub one_at : (o : Opcode) (x : Operand) (s s₁ : State) → WroteOne (instr o x) s s₁ → length s₁.code ≡ length s.code + 2
+one_at o x s s₁ own = wrote_at (instr o x ∷ []) s s₁ own.wrote
 
--- an operand wants the fit that it says
-abbrev same_row : ℕ → Option (ℕ × ℕ) → List ℕ
-same_row a None = []
-same_row a (Some r) = a ∷ r.0 ∷ r.1 ∷ []
+pub one_fitted : (o : Opcode) (x : Operand) (s s₁ : State) → WroteOne (instr o x) s s₁ → length s₁.fits ≤ length s.fits + 3
+one_fitted o x s s₁ own = omega (arith, ap (λ (xs : List ℕ). length xs) own.wrote.fits, length-append s.fits (row_fits (code_fits (length s.code) (instr o x ∷ []))), few_fits (length s.code + 1) x)
 
-fit_row : (a k w : ℕ) (x : Operand) → fit_of x ≡ Some (k, w) → row_fits (fit_operand a x []) ≡ a ∷ k ∷ w ∷ []
-fit_row a k w (plain n) e = absurd (let z : ◌≡◌ {A = ℕ} 0 1 = cc in omega arith)
-fit_row a k w (in_code n) e = ap (same_row a) e
-fit_row a k w (in_words n) e = ap (same_row a) e
-fit_row a k w (of_want n) e = ap (same_row a) e
+pub plain_fitted : (o : Opcode) (n : ℕ) (s s₁ : State) → WroteOne (instr o (plain n)) s s₁ → length s₁.fits ≡ length s.fits
+plain_fitted o n s s₁ own = ap (λ (xs : List ℕ). length xs) (own.wrote.fits ∙ append-nil s.fits)
 
-no_fit_row : (a : ℕ) (x : Operand) → fit_of x ≡ None → row_fits (fit_operand a x []) ≡ []
-no_fit_row a (plain n) e = refl
-no_fit_row a (in_code n) e = absurd (let z : ◌≡◌ {A = ℕ} 0 1 = cc in omega arith)
-no_fit_row a (in_words n) e = absurd (let z : ◌≡◌ {A = ℕ} 0 1 = cc in omega arith)
-no_fit_row a (of_want n) e = absurd (let z : ◌≡◌ {A = ℕ} 0 1 = cc in omega arith)
+-- one instruction, whose words are put behind the code, and those of its fit behind the fits
+pub wrote_one : (o : Opcode) (x : Operand) (s s₁ : State) (words fit : List ℕ) (place : ℕ) → words ≡ code_words (instr o x ∷ []) → fit ≡ row_fits (fit_operand place x []) → place ≡ length s.code + 1 →
+    s₁.code ≡ s.code ++ words → s₁.fits ≡ s.fits ++ fit → Wrote (instr o x ∷ []) s s₁
+wrote_one o x s s₁ words fit place is_words is_fit at code fits = record {
+  code = code ∙ ap (λ w. s.code ++ w) is_words;
+  fits = fits ∙ ap (λ f. s.fits ++ f) (is_fit ∙ ap (λ a. row_fits (fit_operand a x [])) at);
+}
 
--- one instruction, whose words are set
-module _ (o : Opcode) (x : Operand) (s s' : State) (v w : ℕ) (is_opcode : v ≡ opcode_number o) (is_IsWord : w ≡ operand_word x) (inside : s.at + 2 ≤ length s.code) (at : s'.at ≡ s.at + 2) (code : s'.code ≡ set (set s.code s.at v) (s.at + 1) w) where
-  code_set : take s'.at s'.code ≡ take s.at s.code ++ code_words (instr o x ∷ [])
-  code_set = ap₂ take at code ∙ (take_two_set s.at v w s.code inside ∙ ap₂ (λ y z. take s.at s.code ++ (y ∷ z ∷ [])) is_opcode is_IsWord)
+-- with no fit
+pub no_fit : (o : Option (List ℕ)) → ((words : List ℕ) → o ≡ Some words → ⊥) → fit_row o ≡ []
+no_fit None none = refl
+no_fit (Some words) none = absurd (none words refl)
 
-  -- with no fit
-  pub wrote_plain : fit_of x ≡ None → s'.fitted ≡ s.fitted → s'.fits ≡ s.fits → Wrote (instr o x ∷ []) s s'
-  wrote_plain none fitted fits =
-      let row = no_fit_row (s.at + 1) x none in
-      record { at = at; code = code_set; fitted = omega (arith, fitted, ap (λ (xs : List ℕ). length xs) row); fits = ap₂ take fitted fits ∙ (sym (append-nil (take s.fitted s.fits)) ∙ ap (λ xs. take s.fitted s.fits ++ xs) (sym row)) }
-
-  -- with a fit
-  pub wrote_fitted : (p k m : ℕ) → fit_of x ≡ Some (k, m) → p ≡ s.at + 1 → s.fitted + 3 ≤ length s.fits → s'.fitted ≡ s.fitted + 3 → s'.fits ≡ set (set (set s.fits s.fitted p) (s.fitted + 1) k) (s.fitted + 2) m → Wrote (instr o x ∷ []) s s'
-  wrote_fitted p k m some place room fitted fits =
-      let row = fit_row (s.at + 1) k m x some in
-      record { at = at; code = code_set; fitted = omega (arith, fitted, ap (λ (xs : List ℕ). length xs) row); fits = ap₂ take fitted fits ∙ (take_three_set s.fitted p k m s.fits room ∙ ap (λ xs. take s.fitted s.fits ++ xs) (ap (λ y. y ∷ k ∷ m ∷ []) place ∙ sym row)) }
+-- the same by another instruction that is equal
+pub one_as : (i j : Instruction) (s s₁ : State) → i ≡ j → WroteOne i s s₁ → WroteOne j s s₁
+one_as i j s s₁ e own = subst (λ k. WroteOne k s s₁) e own

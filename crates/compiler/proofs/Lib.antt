@@ -1,4 +1,3 @@
-pub mod Tests
 pub mod Steps
 pub mod Placing
 pub mod Lying
@@ -19,8 +18,10 @@ pub mod Weights
 pub mod Correct
 pub mod Space
 pub mod Worked
+pub mod Filling
 pub mod Lending
 pub mod CodeParts
+pub mod Pushing
 pub mod WrittenParts
 pub mod ProcedureParts
 pub mod Assembling

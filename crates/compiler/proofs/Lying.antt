@@ -3,7 +3,8 @@ use Rattle.std.proofs.Common.{◌≡◌, ℕ, zero, suc, ◌+◌, ◌<◌, ◌�
 use Rattle.std.specs.List.{slice_get}
 use Rattle.rows.specs.Units.{Expr, num, arg, word, op, if, keep, then, out, next, call, Exprs, nil, cons, SourceUnit}
 use Rattle.machine.specs.Instructions.{Opcode}
-use Rattle.compiler.specs.Instructions.{Operand, Instruction, instr, opcode_number, operand_word, code_words, Place, placed_word, placed_words}
+use Rattle.machine.specs.Opcodes.{opcode_number}
+use Rattle.compiler.specs.Instructions.{Operand, Instruction, instr, operand_word, code_words, Place, placed_word, placed_words}
 use Rattle.compiler.specs.Code.{size, size_args, code_expr, code_args}
 use Rattle.compiler.specs.Simulation.{Lies}
 

@@ -13,8 +13,14 @@ use Rattle.semantics.specs.Whole.{among, offers_proc}
 use Rattle.compiler.specs.Instructions.{code_words}
 use Rattle.compiler.specs.Code.{size_proc, proc_at, code_proc, code_procs, code_unit, proc_args, offers_of}
 use Rattle.compiler.proofs.Lying.{length_words_append}
-use Rattle.compiler.proofs.Tests.{apart, together, true_is, also, none_some}
+use Rattle.rows.proofs.Decided.{T-parts, T-both, T-true}
+use Rattle.std.proofs.lemmas.Option.{none-some}
 use Rattle.compiler.proofs.Units.{length_proc}
+
+-- a test that holds beside another
+also : (x y : Bool) → T y → T (x || y)
+also true y h = tt
+also false y h = h
 
 -- procedure p is there, with k arguments
 pub record Has (u : SourceUnit) (p k : ℕ) : Type 0 where
@@ -46,7 +52,7 @@ offered_in u p k h (o ∷ os) t = go (eqb p o) refl t (offered_in u p k h os)
     go true e t rest =
         let same : p ≡ o = eqb-true p o e in
         let args : proc_args (slice_get u.procs o) ≡ k = rw (← same, h.there) h.args in
-        rw (args, true_is (eqb k k) (eqb_refl k), same)
+        rw (args, T-true (eqb k k) (eqb_refl k), same)
     go false e t rest = rest t
 
 -- what is found was offered, and begins where that procedure does
@@ -56,9 +62,9 @@ pub record Found (u : SourceUnit) (p k a : ℕ) (os : List ℕ) : Type 0 where
   pub at : a ≡ proc_at u.procs p
 
 offered_from : (u : SourceUnit) (p k a : ℕ) (os : List ℕ) → T (all_below (length u.procs) os) → offered p k (offers_of u os) ≡ Some a → Found u p k a os
-offered_from u p k a [] b h = absurd (none_some a h)
+offered_from u p k a [] b h = absurd (none-some a h)
 offered_from u p k a (o ∷ os) b h = go (eqb p o) (eqb k (proc_args (slice_get u.procs o))) refl refl h
-    (offered_from u p k a os (apart (ltb o (length u.procs)) (all_below (length u.procs) os) b).1)
+    (offered_from u p k a os (T-parts (ltb o (length u.procs)) (all_below (length u.procs) os) b).1)
   where
     later : Found u p k a os → Found u p k a (o ∷ os)
     later f = record { listed = also (eqb p o) (among p os) f.listed; has = f.has; at = f.at }
@@ -66,7 +72,7 @@ offered_from u p k a (o ∷ os) b h = go (eqb p o) (eqb k (proc_args (slice_get 
     here : eqb p o ≡ true → eqb k (proc_args (slice_get u.procs o)) ≡ true → Some (proc_at u.procs o) ≡ Some a → Found u p k a (o ∷ os)
     here e g h =
         let same : p ≡ o = eqb-true p o e in
-        let (q, there) = nth_there u.procs o (ltb→lt o (length u.procs) (apart (ltb o (length u.procs)) (all_below (length u.procs) os) b).0) in
+        let (q, there) = nth_there u.procs o (ltb→lt o (length u.procs) (T-parts (ltb o (length u.procs)) (all_below (length u.procs) os) b).0) in
         let args : k ≡ proc_args (slice_get u.procs o) = eqb-true k (proc_args (slice_get u.procs o)) g in
         record { listed = rw e tt; has = record { proc = q; there = rw same there; args = sym (rw there at args) }; at = cc }
 
@@ -77,14 +83,14 @@ offered_from u p k a (o ∷ os) b h = go (eqb p o) (eqb k (proc_args (slice_get 
     go false y e g h rest = later (rest h)
 
 pub offers_all : (u : SourceUnit) (p k : ℕ) → T (offers_proc u p k) → (a : ℕ) × (offered p k (offers_of u u.offers) ≡ Some a)
-offers_all u p k h = let r = apart (among p u.offers) (takes (option_map (λ (q : Proc). q.args) (slice_get u.procs p)) k) h in
+offers_all u p k h = let r = T-parts (among p u.offers) (takes (option_map (λ (q : Proc). q.args) (slice_get u.procs p)) k) h in
     (proc_at u.procs p, offered_in u p k (has_taken u p k r.1) u.offers r.0)
 
 pub offers_found : (u : SourceUnit) (p k a : ℕ) → T (all_below (length u.procs) u.offers) → offered p k (offers_of u u.offers) ≡ Some a → Found u p k a u.offers
 offers_found u p k a b h = offered_from u p k a u.offers b h
 
 pub offers_nothing_else : (u : SourceUnit) (p k a : ℕ) → T (all_below (length u.procs) u.offers) → offered p k (offers_of u u.offers) ≡ Some a → T (offers_proc u p k)
-offers_nothing_else u p k a b h = let f = offers_found u p k a b h in together (among p u.offers) (takes (option_map (λ (q : Proc). q.args) (slice_get u.procs p)) k)
+offers_nothing_else u p k a b h = let f = offers_found u p k a b h in T-both (among p u.offers) (takes (option_map (λ (q : Proc). q.args) (slice_get u.procs p)) k)
     f.listed (taken_has u p k f.has)
 
 -- a procedure begins in the code
@@ -97,6 +103,6 @@ proc_inside u (q ∷ qs) b (suc n) h = rw (length_words_append (code_proc u b q)
 pub offers_begin : (u : SourceUnit) (os : List ℕ) → T (all_below (length u.procs) os) → T (offers_inside (length (code_words (code_unit u))) (offers_of u os))
 offers_begin u [] b = tt
 offers_begin u (o ∷ os) b =
-    let r = apart (ltb o (length u.procs)) (all_below (length u.procs) os) b in
-    together (ltb (proc_at u.procs o) (length (code_words (code_unit u)))) (offers_inside (length (code_words (code_unit u))) (offers_of u os))
+    let r = T-parts (ltb o (length u.procs)) (all_below (length u.procs) os) b in
+    T-both (ltb (proc_at u.procs o) (length (code_words (code_unit u)))) (offers_inside (length (code_words (code_unit u))) (offers_of u os))
     (lt→ltb (proc_at u.procs o) (length (code_words (code_unit u))) (proc_inside u u.procs 0 o (ltb→lt o (length u.procs) r.0))) (offers_begin u os r.1)

@@ -8,7 +8,7 @@ use Rattle.rows.specs.Formed.{takes, formed, formed_args, formed_procs, depth}
 use Rattle.rows.specs.UnitRows.{row_expr, row_procs, small_procs}
 use Rattle.compiler.specs.Instructions.{Operand, plain, in_code, in_words, of_want, Instruction, instr}
 use Rattle.compiler.specs.Code.{size, size_args, size_proc, proc_at, callee, code_expr, code_args, code_proc, code_procs}
-use Rattle.compiler.proofs.Tests.{apart}
+use Rattle.rows.proofs.Decided.{T-parts}
 use Rattle.compiler.proofs.Lengths.{height_row, size_procs}
 
 -- a number is a word, and one of k wants is named
@@ -49,12 +49,12 @@ module _ (u : SourceUnit) (words : u.words ≤ 4096) (procs : (n : ℕ) → proc
       expr_sane (arg j) a f b = (omega (arith, ltb→lt j k f), tt)
       expr_sane (word j) a f b = (omega (arith, ltb→lt j u.words f), tt)
       expr_sane (op o y z) a f b =
-          let r = apart (formed u k y) (formed u k z) f in
+          let r = T-parts (formed u k y) (formed u k z) f in
           both_sane (length u.wants) (code_expr u a y) _ (expr_sane y a r.0 (omega arith))
           (both_sane (length u.wants) (code_expr u (a + size y) z) _ (expr_sane z (a + size y) r.1 (omega arith)) (number_small o, tt))
       expr_sane (if c y z) a f b =
-          let r = apart (formed u k c) (formed u k y && formed u k z) f in
-          let t = apart (formed u k y) (formed u k z) r.1 in
+          let r = T-parts (formed u k c) (formed u k y && formed u k z) f in
+          let t = T-parts (formed u k y) (formed u k z) r.1 in
           both_sane (length u.wants) (code_expr u a c) _ (expr_sane c a r.0 (omega arith)) (
             omega arith,
             both_sane (length u.wants) (code_expr u (a + size c + 2) y) _ (expr_sane y (a + size c + 2) t.0 (omega arith)) (
@@ -63,21 +63,21 @@ module _ (u : SourceUnit) (words : u.words ≤ 4096) (procs : (n : ℕ) → proc
             ),
           )
       expr_sane (keep j e) a f b =
-          let r = apart (ltb j u.words) (formed u k e) f in
+          let r = T-parts (ltb j u.words) (formed u k e) f in
           both_sane (length u.wants) (code_expr u a e) _ (expr_sane e a r.1 (omega arith)) (omega (arith, ltb→lt j u.words r.0), tt)
       expr_sane (then y z) a f b =
-          let r = apart (formed u k y) (formed u k z) f in
+          let r = T-parts (formed u k y) (formed u k z) f in
           both_sane (length u.wants) (code_expr u a y) _ (expr_sane y a r.0 (omega arith)) (omega arith, expr_sane z (a + size y + 2) r.1 (omega arith))
       expr_sane (out e) a f b = both_sane (length u.wants) (code_expr u a e) _ (expr_sane e a f (omega arith)) (omega arith, tt)
       expr_sane next a f b = (omega arith, tt)
       expr_sane (call c es) a f b =
-          let r = apart (takes (arity u c) (count es)) (formed_args u k es) f in
+          let r = T-parts (takes (arity u c) (count es)) (formed_args u k es) f in
           both_sane (length u.wants) (code_args u a es) _ (args_sane es a r.1 (omega arith)) (callee_sane c, tt)
 
       args_sane : (es : Exprs) (a : ℕ) → T (formed_args u k es) → a + size_args es < 2 ^ 32 → AllSane (length u.wants) (code_args u a es)
       args_sane nil a f b = tt
       args_sane (cons e es) a f b =
-          let r = apart (formed u k e) (formed_args u k es) f in
+          let r = T-parts (formed u k e) (formed_args u k es) f in
           both_sane (length u.wants) (code_expr u a e) _ (expr_sane e a r.0 (omega arith)) (args_sane es (a + size e) r.1 (omega arith))
 
   proc_sane : (q : Proc) (a : ℕ) → T (formed u q.args q.body) → q.args ≤ 8 → height q.body ≤ 65536 → a + size_proc q < 2 ^ 32 → AllSane (length u.wants) (code_proc u a q)
@@ -99,9 +99,9 @@ module _ (u : SourceUnit) (words : u.words ≤ 4096) (procs : (n : ℕ) → proc
       AllSane (length u.wants) (code_procs u a qs)
   procs_sane [] a f s b c = tt
   procs_sane (q ∷ qs) a f s b c =
-      let r = apart (formed u q.args q.body) (formed_procs u qs) f in
-      let t = apart (leb q.args 8) (leb (depth q.body) 256 && small_procs qs) s in
+      let r = T-parts (formed u q.args q.body) (formed_procs u qs) f in
+      let t = T-parts (leb q.args 8) (leb (depth q.body) 256 && small_procs qs) s in
       let rows : suc (length (row_expr q.body) + length (row_procs qs)) ≤ 65536 = simp length-append at b in
       both_sane (length u.wants) (code_proc u a q) (code_procs u (a + size_proc q) qs)
       (proc_sane q a r.0 (leb→le q.args 8 t.0) (omega (arith, height_row q.body)) (omega arith))
-      (procs_sane qs (a + size_proc q) r.1 (apart (leb (depth q.body) 256) (small_procs qs) t.1).1 (omega arith) (omega arith))
+      (procs_sane qs (a + size_proc q) r.1 (T-parts (leb (depth q.body) 256) (small_procs qs) t.1).1 (omega arith) (omega arith))

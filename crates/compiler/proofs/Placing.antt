@@ -4,7 +4,8 @@ use lib.Seq.{set_at, get_or_at}
 use Rattle.std.proofs.lemmas.List.{append_assoc}
 use Rattle.rows.specs.Objects.{Fit}
 use Rattle.linker.specs.Linking.{Laid, fit_all}
-use Rattle.compiler.specs.Instructions.{Operand, plain, in_code, in_words, of_want, Instruction, instr, opcode_number}
+use Rattle.machine.specs.Opcodes.{opcode_number}
+use Rattle.compiler.specs.Instructions.{Operand, plain, in_code, in_words, of_want, Instruction, instr}
 use Rattle.compiler.specs.Instructions.{operand_word, code_words, fit_operand, code_fits, Place, placed_word, placed_words}
 
 pub length_placed : (l : Place) (is : List Instruction) → length (placed_words l is) ≡ length (code_words is)

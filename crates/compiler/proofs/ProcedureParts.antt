@@ -8,16 +8,16 @@ use Rattle.rows.specs.UnitRows.{row_expr}
 use Rattle.rows.specs.Bodies.{outline, Right}
 use Rattle.rows.specs.Objects.{Fit}
 use Rattle.rows.proofs.ProcReading.{from, first_word}
-use Rattle.machine.specs.Instructions.{SetFrame, Return, Reserve, Release, Count}
+use Rattle.machine.specs.Instructions.{Opcode, SetFrame, Return, Reserve, Release, Count}
 use Rattle.compiler.specs.Instructions.{plain, instr, fit_operand}
 use Rattle.compiler.specs.Code.{code_expr, code_proc}
-use Rattle.compiler.specs.Writing.{State, Wrote, WroteOne}
-use Rattle.compiler.specs.WritingExpressions.{CalleesOf, WroteExpr}
+use Rattle.compiler.specs.Writing.{State, changed, SpaceOne, Wrote, WroteOne}
+use Rattle.compiler.specs.WritingExpressions.{callees_of, CalleesOf, WroteExpr, NoExpr}
 use Rattle.compiler.specs.WritingProcedures.{SpaceProcs, GoneProcs, RightProc, WroteProc}
 use Rattle.compiler.specs.declared.names.Names.{Names}
 use Rattle.compiler.proofs.Lengths.{row_there}
-use Rattle.compiler.proofs.Lending.{wrote_more, wrote_as, filled_in}
-use Rattle.compiler.proofs.WrittenParts.{changed, reading, height_small}
+use Rattle.compiler.proofs.Lending.{wrote_at, wrote_more, wrote_as, filled_in, one_at, plain_fitted}
+use Rattle.compiler.proofs.WrittenParts.{reading, height_small}
 
 -- a number that is filled in wants no fit
 numbers_alike : (n m b : ℕ) (fs : List Fit) → fit_operand b (plain n) fs ≡ fit_operand b (plain m) fs
@@ -37,9 +37,9 @@ space_kept s s' space gone = record { for_code = omega (arith, space.for_code, g
 
 -- s₃: before the body; s₄: behind it
 module _ (p : Names) (s s₀ s₁ s₂ s₃ s₄ : State) (h : ℕ) (space : SpaceProcs s) (long : 1 ≤ length s.row) (begun : s₀ ≡ reading s (from 1 s.row)) (body : WroteExpr p 256 s₃ s₄ h)
-    (counts : WroteOne 0 (instr Count (plain 0)) s₀ s₁) (reserves : WroteOne 0 (instr Reserve (plain 0)) s₁ s₂) (sets : WroteOne 0 (instr SetFrame (plain p.scope.args)) s₂ s₃) where
-  first : WroteOne 0 (instr Count (plain 0)) (reading s (from 1 s.row)) s₁
-  first = subst (λ z. WroteOne 0 (instr Count (plain 0)) z s₁) begun counts
+    (counts : WroteOne (instr Count (plain 0)) s₀ s₁) (reserves : WroteOne (instr Reserve (plain 0)) s₁ s₂) (sets : WroteOne (instr SetFrame (plain p.scope.args)) s₂ s₃) where
+  first : WroteOne (instr Count (plain 0)) (reading s (from 1 s.row)) s₁
+  first = subst (λ z. WroteOne (instr Count (plain 0)) z s₁) begun counts
 
   body_row : s₃.row ≡ from 1 s.row
   body_row = sets.row ∙ (reserves.row ∙ first.row)
@@ -47,30 +47,55 @@ module _ (p : Names) (s s₀ s₁ s₂ s₃ s₄ : State) (h : ℕ) (space : Spa
   body_length : 1 + length s₃.row ≡ length s.row
   body_length = omega (arith, ap (λ (xs : List ℕ). length xs) (body_row ∙ take_rest s.row 1), length-drop 1 s.row)
 
-  body_lent : length s₄.code ≡ length s.code
+  body_lent : s₄.code_lent ≡ s.code_lent
   body_lent = body.gone.code ∙ (sets.code ∙ (reserves.code ∙ first.code))
 
-  pub body_room : s₄.at + 4 ≤ length s₄.code
-  body_room = omega (arith, space.for_code, body.gone.for_code, sets.at, reserves.at, first.at, body_length, body_lent, read_some p 256 s₃ s₄ h body)
+  -- where they end, and the fits, which none of them has
+  at_body : length s₃.code ≡ length s.code + 6
+  at_body = omega (arith, one_at _ _ _ s₁ first, one_at _ _ s₁ s₂ reserves, one_at _ _ s₂ s₃ sets)
 
-  pub frame_small : 7 * (h + 1) ≤ length s.code
+  fitted_body : length s₃.fits ≡ length s.fits
+  fitted_body = omega (arith, plain_fitted _ _ _ s₁ first, plain_fitted _ _ s₁ s₂ reserves, plain_fitted _ _ s₂ s₃ sets)
+
+  pub frame_small : 7 * (h + 1) ≤ s.code_lent
   frame_small = omega (arith, space.for_code, height_small p 256 s₃ s₄ h body, body_length)
+
+  -- there is space for the two instructions behind it, the first of them at z: where a word was filled in
+  module _ (z : State) (i v : ℕ) (filled : z ≡ changed s₄ i v) where
+    same_code : length z.code ≡ length s₄.code
+    same_code = ap (λ (s : State). length s.code) filled ∙ length-set s₄.code i v
+
+    same_fits : length z.fits ≡ length s₄.fits
+    same_fits = ap (λ (s : State). length s.fits) filled
+
+    same_code_lent : z.code_lent ≡ s.code_lent
+    same_code_lent = ap (λ (s : State). s.code_lent) filled ∙ body_lent
+
+    same_fits_lent : z.fits_lent ≡ s.fits_lent
+    same_fits_lent = ap (λ (s : State). s.fits_lent) filled ∙ (body.gone.fits ∙ (sets.fits ∙ (reserves.fits ∙ first.fits)))
+
+    room : length z.code + 4 ≤ z.code_lent
+    room = omega (arith, space.for_code, body.gone.for_code, at_body, body_length, same_code, same_code_lent, read_some p 256 s₃ s₄ h body)
+
+    fits_room : length z.fits + 3 ≤ z.fits_lent
+    fits_room = omega (arith, space.for_fits, body.gone.for_fits, fitted_body, body_length, same_fits, same_fits_lent, read_some p 256 s₃ s₄ h body)
+
+    pub space_release : SpaceOne z
+    space_release = record { for_code = omega (arith, room); for_fits = fits_room; words = omega (arith, space.words, same_code_lent) }
+
+    pub space_return : (o : Opcode) (n : ℕ) (s₆ : State) → WroteOne (instr o (plain n)) z s₆ → SpaceOne s₆
+    space_return o n s₆ own = record {
+      for_code = omega (arith, room, one_at o (plain n) z s₆ own, own.code);
+      for_fits = omega (arith, fits_room, plain_fitted o n z s₆ own, own.fits);
+      words = omega (arith, space.words, same_code_lent, own.code);
+    }
 
 -- fr: the frame, which is filled in at the second instruction
 module _ (p : Names) (s s₀ s₁ s₂ s₃ s₄ s₆ s₇ : State) (h fr : ℕ) (space : SpaceProcs s) (long : 1 ≤ length s.row) (begun : s₀ ≡ reading s (from 1 s.row)) (body : WroteExpr p 256 s₃ s₄ h)
-    (counts : WroteOne 0 (instr Count (plain 0)) s₀ s₁) (reserves : WroteOne 0 (instr Reserve (plain 0)) s₁ s₂) (sets : WroteOne 0 (instr SetFrame (plain p.scope.args)) s₂ s₃)
-    (releases : WroteOne 0 (instr Release (plain fr)) (changed s₄ (s.at + 3) fr) s₆) (returns : WroteOne 0 (instr Return (plain p.scope.args)) s₆ s₇)
+    (counts : WroteOne (instr Count (plain 0)) s₀ s₁) (reserves : WroteOne (instr Reserve (plain 0)) s₁ s₂) (sets : WroteOne (instr SetFrame (plain p.scope.args)) s₂ s₃)
+    (releases : WroteOne (instr Release (plain fr)) (changed s₄ (length s.code + 3) fr) s₆) (returns : WroteOne (instr Return (plain p.scope.args)) s₆ s₇)
     (args_is : p.scope.args ≡ get_or s.row 0 0) (few : p.scope.args ≤ 8) (frame_is : fr ≡ 4 + p.scope.args + h) where
-  inside : s.at ≤ length s.code
-  inside = omega (arith, space.for_code)
-
-  room : s₄.at + 4 ≤ length s₄.code
-  room = body_room p s s₀ s₁ s₂ s₃ s₄ h space long begun body counts reserves sets
-
-  inside₂ : s₄.at ≤ length s₄.code
-  inside₂ = omega (arith, room)
-
-  begins : WroteOne 0 (instr Count (plain 0)) (reading s (from 1 s.row)) s₁
+  begins : WroteOne (instr Count (plain 0)) (reading s (from 1 s.row)) s₁
   begins = first p s s₀ s₁ s₂ s₃ s₄ h space long begun body counts reserves sets
 
   shorter : 1 + length s₃.row ≡ length s.row
@@ -84,9 +109,9 @@ module _ (p : Names) (s s₀ s₁ s₂ s₃ s₄ s₆ s₇ : State) (h fr : ℕ)
 
   gone : GoneProcs s s₇
   gone = record {
-    for_code = omega (arith, body.gone.for_code, sets.at, reserves.at, begins.at, releases.at, returns.at, shorter, last_length, read_some p 256 s₃ s₄ h body);
-    for_fits = omega (arith, body.gone.for_fits, sets.fitted, reserves.fitted, begins.fitted, releases.fitted, returns.fitted, shorter, last_length);
-    code = returns.code ∙ (releases.code ∙ (length-set s₄.code (s.at + 3) fr ∙ body_lent p s s₀ s₁ s₂ s₃ s₄ h space long begun body counts reserves sets));
+    for_code = omega (arith, body.gone.for_code, at_body p s s₀ s₁ s₂ s₃ s₄ h space long begun body counts reserves sets, one_at _ _ (changed s₄ (length s.code + 3) fr) s₆ releases, length-set s₄.code (length s.code + 3) fr, one_at _ _ s₆ s₇ returns, shorter, last_length, read_some p 256 s₃ s₄ h body);
+    for_fits = omega (arith, body.gone.for_fits, fitted_body p s s₀ s₁ s₂ s₃ s₄ h space long begun body counts reserves sets, plain_fitted _ _ (changed s₄ (length s.code + 3) fr) s₆ releases, plain_fitted _ _ s₆ s₇ returns, shorter, last_length);
+    code = returns.code ∙ (releases.code ∙ body_lent p s s₀ s₁ s₂ s₃ s₄ h space long begun body counts reserves sets);
     fits = returns.fits ∙ (releases.fits ∙ (body.gone.fits ∙ (sets.fits ∙ (reserves.fits ∙ begins.fits))));
   }
 
@@ -96,32 +121,32 @@ module _ (p : Names) (s s₀ s₁ s₂ s₃ s₄ s₆ s₇ : State) (h fr : ℕ)
   abbrev q : Proc
   q = record { args = args; body = body.expr }
 
-  procedure_code : (u : SourceUnit) → CalleesOf p.callees u → T (formed u args body.expr) → Wrote (code_proc u s.at q) s s₇
+  procedure_code : (u : SourceUnit) → CalleesOf (callees_of p) u → T (formed u args body.expr) → Wrote (code_proc u (length s.code) q) s s₇
   procedure_code u callees t = wrote_as _ _ s s₇ same all
     where
+      a : ℕ
+      a = length s.code
+
       entered : Wrote (instr Count (plain 0) ∷ instr Reserve (plain 0) ∷ instr SetFrame (plain args) ∷ []) s s₃
-      entered = wrote_more (instr Count (plain 0) ∷ []) _ s s₁ s₃ (record { at = begins.wrote.at; code = begins.wrote.code; fitted = begins.wrote.fitted; fits = begins.wrote.fits }) (wrote_more (instr Reserve (plain 0) ∷ []) _ s₁ s₂ s₃ reserves.wrote sets.wrote)
+      entered = wrote_more (instr Count (plain 0) ∷ []) _ s s₁ s₃ (record { code = begins.wrote.code; fits = begins.wrote.fits }) (wrote_more (instr Reserve (plain 0) ∷ []) _ s₁ s₂ s₃ reserves.wrote sets.wrote)
 
-      there : s₃.at ≡ s.at + 6
-      there = entered.at
+      worked : Wrote (code_expr u (a + 6) body.expr) s₃ s₄
+      worked = subst (λ n. Wrote (code_expr u n body.expr) s₃ s₄) (wrote_at _ s s₃ entered) (body.writes u callees t)
 
-      worked : Wrote (code_expr u (s.at + 6) body.expr) s₃ s₄
-      worked = subst (λ a. Wrote (code_expr u a body.expr) s₃ s₄) there (body.writes u callees t)
-
-      before : Wrote (instr Count (plain 0) ∷ instr Reserve (plain fr) ∷ instr SetFrame (plain args) ∷ code_expr u (s.at + 6) body.expr) s (changed s₄ (s.at + 3) fr)
-      before = filled_in Reserve (plain 0) (plain fr) (numbers_alike 0 fr) (instr Count (plain 0) ∷ []) (instr SetFrame (plain args) ∷ code_expr u (s.at + 6) body.expr) s s₄ (s.at + 3) inside inside₂
+      before : Wrote (instr Count (plain 0) ∷ instr Reserve (plain fr) ∷ instr SetFrame (plain args) ∷ code_expr u (a + 6) body.expr) s (changed s₄ (a + 3) fr)
+      before = filled_in Reserve (plain 0) (plain fr) (numbers_alike 0 fr) (instr Count (plain 0) ∷ []) (instr SetFrame (plain args) ∷ code_expr u (a + 6) body.expr) s s₄ (a + 3)
           (wrote_more (instr Count (plain 0) ∷ instr Reserve (plain 0) ∷ instr SetFrame (plain args) ∷ []) _ s s₃ s₄ entered worked) (omega arith)
 
-      all : Wrote ((instr Count (plain 0) ∷ instr Reserve (plain fr) ∷ instr SetFrame (plain args) ∷ code_expr u (s.at + 6) body.expr) ++ (instr Release (plain fr) ∷ instr Return (plain args) ∷ [])) s s₇
-      all = wrote_more _ _ s (changed s₄ (s.at + 3) fr) s₇ before (wrote_more (instr Release (plain fr) ∷ []) _ (changed s₄ (s.at + 3) fr) s₆ s₇ releases.wrote returns.wrote)
+      all : Wrote ((instr Count (plain 0) ∷ instr Reserve (plain fr) ∷ instr SetFrame (plain args) ∷ code_expr u (a + 6) body.expr) ++ (instr Release (plain fr) ∷ instr Return (plain args) ∷ [])) s s₇
+      all = wrote_more _ _ s (changed s₄ (a + 3) fr) s₇ before (wrote_more (instr Release (plain fr) ∷ []) _ (changed s₄ (a + 3) fr) s₆ s₇ releases.wrote returns.wrote)
 
       same_frame : fr ≡ frame q
       same_frame = omega (arith, frame_is, body.high)
 
-      same : (instr Count (plain 0) ∷ instr Reserve (plain fr) ∷ instr SetFrame (plain args) ∷ code_expr u (s.at + 6) body.expr) ++ (instr Release (plain fr) ∷ instr Return (plain args) ∷ []) ≡ code_proc u s.at q
-      same = ap (λ f. instr Count (plain 0) ∷ instr Reserve (plain f) ∷ instr SetFrame (plain args) ∷ (code_expr u (s.at + 6) body.expr ++ (instr Release (plain f) ∷ instr Return (plain args) ∷ []))) same_frame
+      same : (instr Count (plain 0) ∷ instr Reserve (plain fr) ∷ instr SetFrame (plain args) ∷ code_expr u (a + 6) body.expr) ++ (instr Release (plain fr) ∷ instr Return (plain args) ∷ []) ≡ code_proc u a q
+      same = ap (λ f. instr Count (plain 0) ∷ instr Reserve (plain f) ∷ instr SetFrame (plain args) ∷ (code_expr u (a + 6) body.expr ++ (instr Release (plain f) ∷ instr Return (plain args) ∷ []))) same_frame
 
-  pub procedure_written : WroteProc (outline p.scope) p.callees s s₇
+  pub procedure_written : WroteProc (outline p.scope) (callees_of p) s s₇
   procedure_written = record {
     proc = q;
     right = record { few = few; body = body.right };
@@ -129,3 +154,18 @@ module _ (p : Names) (s s₀ s₁ s₂ s₃ s₄ s₆ s₇ : State) (h fr : ℕ)
     gone = gone;
     writes = procedure_code;
   }
+
+-- the same where the place that is filled in is told by an equation
+pub procedure_filled : (p : Names) (s s₀ s₁ s₂ s₃ s₄ z s₆ s₇ : State) (i h fr : ℕ) → SpaceProcs s → 1 ≤ length s.row → s₀ ≡ reading s (from 1 s.row) → WroteExpr p 256 s₃ s₄ h →
+    WroteOne (instr Count (plain 0)) s₀ s₁ → WroteOne (instr Reserve (plain 0)) s₁ s₂ → WroteOne (instr SetFrame (plain p.scope.args)) s₂ s₃ → i ≡ length s.code + 3 → z ≡ changed s₄ i fr →
+    WroteOne (instr Release (plain fr)) z s₆ → WroteOne (instr Return (plain p.scope.args)) s₆ s₇ → p.scope.args ≡ get_or s.row 0 0 → p.scope.args ≤ 8 → fr ≡ 4 + p.scope.args + h → WroteProc (outline p.scope) (callees_of p) s s₇
+procedure_filled p s s₀ s₁ s₂ s₃ s₄ z s₆ s₇ i h fr space long begun body counts reserves sets place filled releases returns args_is few frame_is =
+    procedure_written p s s₀ s₁ s₂ s₃ s₄ s₆ s₇ h fr space long begun body counts reserves sets
+    (subst (λ y. WroteOne (instr Release (plain fr)) y s₆) (filled ∙ ap (λ n. changed s₄ n fr) place) releases) returns args_is few frame_is
+
+-- what a body may name is told by an equation
+pub expr_in : (p q : Names) (d : ℕ) (s s' : State) (h : ℕ) → p ≡ q → WroteExpr p d s s' h → WroteExpr q d s s' h
+expr_in p q d s s' h e w = subst (λ r. WroteExpr r d s s' h) e w
+
+pub no_expr_in : (p q : Names) (d : ℕ) (row : List ℕ) → p ≡ q → NoExpr p d row → NoExpr q d row
+no_expr_in p q d row e none = subst (λ r. NoExpr r d row) e none

@@ -7,10 +7,11 @@ use Rattle.rows.specs.Objects.{Fit, Offer}
 use Rattle.rows.specs.UnitRows.{row_wants, row_unit, small_procs, all_below, UnitRow}
 use Rattle.rows.specs.ObjectRows.{row_offers, row_fits, row_object}
 use Rattle.machine.specs.Instructions.{Opcode, Halt, Push, Arg, Load, Store, Operate, JumpIfZero, Jump, Call, SetFrame, Return, Out, Next, Pop, Reserve, Release, Count}
-use Rattle.compiler.specs.Instructions.{Operand, plain, in_code, in_words, of_want, Instruction, instr, opcode_number, operand_word, code_words, fit_operand, code_fits}
+use Rattle.machine.specs.Opcodes.{opcode_number}
+use Rattle.compiler.specs.Instructions.{Operand, plain, in_code, in_words, of_want, Instruction, instr, operand_word, code_words, fit_operand, code_fits}
 use Rattle.compiler.specs.Code.{code_unit, proc_args, offers_of, object}
 use Rattle.compiler.specs.Correct.{FitsSpace}
-use Rattle.compiler.proofs.Tests.{apart, together}
+use Rattle.rows.proofs.Decided.{T-parts, T-both}
 use Rattle.compiler.proofs.Lengths.{size_procs, proc_at_most, row_length}
 use Rattle.compiler.proofs.Operands.{Sane, AllSane}
 use Rattle.compiler.proofs.Correct.{code_short, unit_sane}
@@ -23,11 +24,11 @@ Words (x ∷ xs) = (x < 2 ^ 32) × Words xs
 
 words_below : (xs : List ℕ) → Words xs → T (all_below (2 ^ 32) xs)
 words_below [] h = tt
-words_below (x ∷ xs) h = together (ltb x (2 ^ 32)) (all_below (2 ^ 32) xs) (lt→ltb x (2 ^ 32) h.0) (words_below xs h.1)
+words_below (x ∷ xs) h = T-both (ltb x (2 ^ 32)) (all_below (2 ^ 32) xs) (lt→ltb x (2 ^ 32) h.0) (words_below xs h.1)
 
 below_words : (xs : List ℕ) → T (all_below (2 ^ 32) xs) → Words xs
 below_words [] h = tt
-below_words (x ∷ xs) h = let r = apart (ltb x (2 ^ 32)) (all_below (2 ^ 32) xs) h in (ltb→lt x (2 ^ 32) r.0, below_words xs r.1)
+below_words (x ∷ xs) h = let r = T-parts (ltb x (2 ^ 32)) (all_below (2 ^ 32) xs) h in (ltb→lt x (2 ^ 32) r.0, below_words xs r.1)
 
 words_both : (xs ys : List ℕ) → Words xs → Words ys → Words (xs ++ ys)
 words_both [] ys h g = g
@@ -78,14 +79,14 @@ fits_small k a (instr o x ∷ is) few b h = fit_small k (a + 1) x (code_fits (a 
 
 args_small : (qs : List Proc) (n : ℕ) → T (small_procs qs) → proc_args (slice_get qs n) ≤ 8
 args_small [] n h = omega arith
-args_small (q ∷ qs) zero h = leb→le q.args 8 (apart (leb q.args 8) (leb (depth q.body) 256 && small_procs qs) h).0
-args_small (q ∷ qs) (suc n) h = args_small qs n (apart (leb (depth q.body) 256) (small_procs qs) (apart (leb q.args 8) (leb (depth q.body) 256 && small_procs qs) h).1).1
+args_small (q ∷ qs) zero h = leb→le q.args 8 (T-parts (leb q.args 8) (leb (depth q.body) 256 && small_procs qs) h).0
+args_small (q ∷ qs) (suc n) h = args_small qs n (T-parts (leb (depth q.body) 256) (small_procs qs) (T-parts (leb q.args 8) (leb (depth q.body) 256 && small_procs qs) h).1).1
 
 offers_small : (u : SourceUnit) (os : List ℕ) → length u.procs ≤ 256 → T (small_procs u.procs) → size_procs u.procs < 2 ^ 32 →
     T (all_below (length u.procs) os) → Words (row_offers (offers_of u os))
 offers_small u [] few small short h = tt
 offers_small u (o ∷ os) few small short h =
-    let r = apart (ltb o (length u.procs)) (all_below (length u.procs) os) h in
+    let r = T-parts (ltb o (length u.procs)) (all_below (length u.procs) os) h in
     (omega (arith, ltb→lt o (length u.procs) r.0), (omega (arith, args_small u.procs o small), (omega (arith, proc_at_most u.procs o), offers_small u os few small short r.1)))
 
 length-row_offers : (os : List Offer) → length (row_offers os) ≡ 3 * length os

@@ -1,5 +1,6 @@
 -- How many arguments procedures take and where they begin, found one after the other.
 use Rattle.std.proofs.Common.{◌≡◌, ℕ, zero, suc, ◌+◌, ◌*◌, ◌<◌, ◌≤◌, Bool, true, false, eqb, ◌≢◌, List, [], ◌∷◌, ◌++◌, map, length, get_or, take, set, None, sym, refl, ap, ◌∙◌, arith, length-append, get_or-set_other, get_or-set_same, below_more}
+use Rattle.std.specs.Bool.{then_some}
 use Rattle.std.proofs.lemmas.List.{take_all, take_rest}
 use Rattle.rows.specs.Units.{Proc}
 use Rattle.rows.specs.UnitRows.{row_expr}
@@ -42,13 +43,13 @@ pub none_placed : (row arities starts : List ℕ) → Placing row row arities st
 none_placed row arities starts = record { procs = []; read = read_none FewArgs row; arity = refl; next_at = refl; start = λ k less. absurd (omega arith); small = omega arith }
 
 module _ (row left arities starts : List ℕ) (i at n : ℕ) (h : Placing row left arities starts i at) (more : i < n) where
-  pub no_proc : length left < 1 → PlaceSays n row arities starts false
+  pub no_proc : length left < 1 → PlaceSays n row arities starts None
   no_proc short ps k = nothing_left FewArgs FewArgs h.read more k short
 
-  pub many_args : 8 < get_or left 0 0 → PlaceSays n row arities starts false
+  pub many_args : 8 < get_or left 0 0 → PlaceSays n row arities starts None
   many_args many ps k = wrong_args FewArgs FewArgs h.read more k (λ p few is. omega arith)
 
-  pub no_body : 1 ≤ length left → SizeSays (from 1 left) None → PlaceSays n row arities starts false
+  pub no_body : 1 ≤ length left → SizeSays (from 1 left) None → PlaceSays n row arities starts None
   no_body long none ps k = wrong_body FewArgs FewArgs h.read more k Any long (λ e rest ok q. none e rest q) (λ p is few. tt)
 
   pub one_placed : (taken m : ℕ) → 1 ≤ length left → get_or left 0 0 ≤ 8 → Sized (from 1 left) taken m → i < length arities → i < length starts →
@@ -70,7 +71,7 @@ module _ (row left arities starts : List ℕ) (i at n : ℕ) (h : Placing row le
       says : left ≡ get_or left 0 0 ∷ (row_expr sized.expr ++ from taken (from 1 left))
       says = first_word left long ∙ ap (λ s. get_or left 0 0 ∷ s) (sized.begins.begins ∙ ap (λ s. row_expr sized.expr ++ s) (sym (take_rest (from 1 left) taken)))
 
-pub all_placed : (row left arities starts : List ℕ) (i at n : ℕ) (b : Bool) → Placing row left arities starts i at → i ≡ n → length arities ≡ n → b ≡ eqb (length left) 0 → PlaceSays n row arities starts b
+pub all_placed : (row left arities starts : List ℕ) (i at n : ℕ) (b : Bool) → Placing row left arities starts i at → i ≡ n → length arities ≡ n → b ≡ eqb (length left) 0 → PlaceSays n row arities starts (then_some b tt)
 all_placed row left arities starts i at n true h all long e = record {
   procs = h.procs;
   says = none_over FewArgs h.read all (sym e);

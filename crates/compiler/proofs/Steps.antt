@@ -1,11 +1,12 @@
 -- Runs of the machine, one after the other.
-use Rattle.std.proofs.Common.{◌≡◌, ℕ, zero, suc, ◌+◌, List, get_or, Some, refl, ap, ◌∙◌, suc-add, zero-add}
+use Rattle.std.proofs.Common.{◌≡◌, ℕ, ◌+◌, List, get_or, Some, refl, ap, ◌∙◌}
 use Rattle.std.specs.List.{slice_get}
 use Rattle.machine.specs.Machine.{Machine}
 use Rattle.machine.specs.Instructions.{Opcode, Halt, Push, Arg, Load, Store, Operate, JumpIfZero, Jump, Call, SetFrame}
 use Rattle.machine.specs.Instructions.{Return, Out, Next, Pop, Reserve, Release, Count, opcodes, act, step, steps}
 use Rattle.semantics.specs.Relation.{Halts}
-use Rattle.compiler.specs.Instructions.{opcode_number}
+use Rattle.machine.specs.Opcodes.{opcode_number}
+use Rattle.machine.proofs.Steps.{steps_add}
 
 pub opcode_there : (o : Opcode) → slice_get opcodes (opcode_number o) ≡ Some o
 opcode_there Halt = refl
@@ -34,18 +35,14 @@ step_is code m o n r i p = simp (step, r, i, p, opcode_there)
 abbrev pub Goes : List ℕ → Machine → Machine → Type 0
 Goes code m m' = (n : ℕ) × (steps n code m ≡ m')
 
-steps_add : (code : List ℕ) (n k : ℕ) (m : Machine) → steps (n + k) code m ≡ steps k code (steps n code m)
-steps_add code zero k m = rw zero-add
-steps_add code (suc n) k m = rw suc-add (steps_add code n k (step code m))
-
 pub goes_on : {code : List ℕ} {m m' m'' : Machine} → Goes code m m' → Goes code m' m'' → Goes code m m''
-goes_on {code} {m} (n, p) (k, q) = (n + k, steps_add code n k m ∙ ap (steps k code) p ∙ q)
+goes_on {code} {m} (n, p) (k, q) = (n + k, steps_add n k code m ∙ ap (steps k code) p ∙ q)
 
 pub halts_after : {code : List ℕ} {h : ℕ} {outs : List ℕ} {m m' : Machine} → Goes code m m' → Halts code h outs m' → Halts code h outs m
 halts_after {code} {m = m} {m' = m'} (n, p) (k, q, r) = (n + k, ap (λ (w : Machine). w.halted) same ∙ q, ap (λ (w : Machine). w.outs) same ∙ r)
   where
     same : steps (n + k) code m ≡ steps k code m'
-    same = steps_add code n k m ∙ ap (steps k code) p
+    same = steps_add n k code m ∙ ap (steps k code) p
 
 pub goes_step : (code : List ℕ) (m m' : Machine) → step code m ≡ m' → Goes code m m'
 goes_step code m m' e = (1, e)

@@ -5,7 +5,7 @@ use Rattle.rows.specs.ObjectRows.{row_objects, sound, all_sound, ObjectRows}
 use Rattle.semantics.specs.Theorems.{ObjectsOf, none, more}
 use Rattle.compiler.specs.Code.{object}
 use Rattle.compiler.specs.Together.{EachSaid, objects, FewEnough, CompiledRuns}
-use Rattle.compiler.proofs.Tests.{together}
+use Rattle.rows.proofs.Decided.{T-both}
 use Rattle.compiler.proofs.Correct.{compiles}
 
 objects_related : (us : List SourceUnit) → EachSaid us → ObjectsOf us (objects us)
@@ -14,7 +14,7 @@ objects_related (u ∷ us) h = more (compiles h.0.0 u h.0.1) (objects_related us
 
 objects_sound : (us : List SourceUnit) → EachSaid us → T (all_sound (objects us))
 objects_sound [] h = tt
-objects_sound (u ∷ us) h = together (sound (object u)) (all_sound (objects us)) (compiles h.0.0 u h.0.1).accepted (objects_sound us h.1)
+objects_sound (u ∷ us) h = T-both (sound (object u)) (all_sound (objects us)) (compiles h.0.0 u h.0.1).accepted (objects_sound us h.1)
 
 length-objects : (us : List SourceUnit) → length (objects us) ≡ length us
 length-objects [] = refl

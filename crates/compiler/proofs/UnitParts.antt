@@ -1,24 +1,24 @@
 -- A unit whose row is laid out: its bodies are right exactly if the row says it, and then all is ready for its object's row.
-use Rattle.std.proofs.Common.{◌≡◌, ℕ, ◌+◌, ◌*◌, ◌≤◌, true, T, List, [], ◌∷◌, length, get_or, take, sym, refl, ap, ◌∙◌, subst, arith, length-append}
+use Rattle.std.proofs.Common.{◌≡◌, ℕ, ◌+◌, ◌*◌, ◌≤◌, true, T, List, [], ◌∷◌, length, sym, refl, ap, ◌∙◌, subst, arith, length-append}
 use Rattle.std.specs.List.{AllByRecursion}
 use Rattle.std.proofs.lemmas.List.{take_all, length-map}
 use Rattle.rows.specs.Units.{Proc, SourceUnit}
 use Rattle.rows.specs.Formed.{formed_procs}
 use Rattle.rows.specs.UnitRows.{UnitRow}
+use Rattle.rows.specs.ObjectViews.{want_in}
 use Rattle.rows.specs.UnitParts.{Opened, Procedures, FewArgs, BodyRight, AritySays}
-use Rattle.rows.specs.WantRows.{wants_said}
-use Rattle.rows.specs.Bodies.{outlined}
 use Rattle.rows.specs.ObjectRows.{row_fits}
 use Rattle.rows.specs.declared.units.UnitView.{UnitView}
 use Rattle.rows.proofs.UnitReading.{one_list, unit_of, cut_view, bodies_wrong, unit_row}
 use Rattle.compiler.specs.Instructions.{code_words, code_fits}
 use Rattle.compiler.specs.Code.{code_procs}
 use Rattle.compiler.specs.WritingExpressions.{CalleesOf}
+use Rattle.compiler.specs.Laying.{outline_in, callees_in}
 use Rattle.compiler.specs.WritingProcedures.{RightProc, WroteCode}
-use Rattle.compiler.specs.ObjectWriting.{object_size, Ready}
+use Rattle.compiler.specs.ObjectWriting.{object_size, Ready, WritesObject}
 use Rattle.compiler.specs.Measuring.{Placed}
-use Rattle.compiler.specs.UnitWriting.{LaidOut}
-use Rattle.compiler.specs.declared.names.Callees.{Callees}
+use Rattle.compiler.specs.UnitWriting.{LaidOut, UnitWritten}
+use Rattle.compiler.specs.declared.layout.Layout.{Layout}
 use Rattle.compiler.proofs.Weights.{short_row}
 use Rattle.compiler.proofs.ObjectParts.{ready_size}
 
@@ -34,12 +34,21 @@ all_bodies o (q ∷ qs) right = (right.0.body, all_bodies o qs right.1)
 pub opened_inside : (s : List ℕ) (v : UnitView) → Opened s v → length v.procs.now ≤ length s
 opened_inside s v h = omega (arith, simp length-append at (ap (λ (xs : List ℕ). length xs) h.cut.parts))
 
-pub laid_out : (s : List ℕ) (v : UnitView) (arities starts : List ℕ) (n : ℕ) → Opened s v → n ≡ v.count → Placed n v.procs.now arities starts → LaidOut s v arities starts
-laid_out s v arities starts n opened all placed = record { opened = opened; placed = subst (λ m. Placed m v.procs.now arities starts) all placed }
+pub laid_out : (s : List ℕ) (l : Layout) (n : ℕ) → Opened s l.view → n ≡ l.view.count → Placed n l.view.procs.now l.arities.now l.starts.now → LaidOut s l
+laid_out s l n opened all placed = record { opened = opened; placed = subst (λ m. Placed m l.view.procs.now l.arities.now l.starts.now) all placed }
 
-module _ (s : List ℕ) (v : UnitView) (arities starts : List ℕ) (laid : LaidOut s v arities starts) where
+module _ (s : List ℕ) (l : Layout) (laid : LaidOut s l) where
+  abbrev v : UnitView
+  v = l.view
+
+  abbrev arities : List ℕ
+  arities = l.arities.now
+
+  abbrev starts : List ℕ
+  starts = l.starts.now
+
   abbrev o : SourceUnit
-  o = outlined v.words v.wants.now arities
+  o = outline_in l
 
   pub procs_inside : length v.procs.now ≤ length s
   procs_inside = opened_inside s v laid.opened
@@ -55,7 +64,7 @@ module _ (s : List ℕ) (v : UnitView) (arities starts : List ℕ) (laid : LaidO
       wrong qs right = none qs (record { count = right.count; says = right.says; each = all_right o qs (subst (AllByRecursion FewArgs) (one_list laid.placed.procs qs laid.placed.says right) laid.placed.says.each) right.each })
 
   -- they are, and their code is written
-  module _ (p : Callees) (c f : List ℕ) (k l k' l' : ℕ) (wants_is : p.wants ≡ length (wants_said v.wants.now)) (starts_are : p.starts.now ≡ starts) (w : WroteCode o p v.count v.procs.now c f k l) (same_k : k' ≡ k) (same_l : l' ≡ l) where
+  module _ (c f : List ℕ) (w : WroteCode o (callees_in l) v.count v.procs.now c f) where
     abbrev pub u : SourceUnit
     u = unit_of v laid.placed.procs
 
@@ -66,21 +75,24 @@ module _ (s : List ℕ) (v : UnitView) (arities starts : List ℕ) (laid : LaidO
     unit = unit_row s v laid.opened.cut v.count v.count arities refl refl counted w.procs
         (record { count = w.right.count; says = w.right.says; each = all_bodies o w.procs w.right.each }) laid.opened.wants laid.opened.offers
 
-    callees : CalleesOf p u
-    callees = record { wants = wants_is; starts = λ n less. ap (λ xs. get_or xs n 0) starts_are ∙ laid.placed.start n less }
+    callees : CalleesOf (callees_in l) u
+    callees = record { wants = sym (length-map v.wants.now want_in); starts = laid.placed.start }
 
     well_formed : T (formed_procs u w.procs)
     well_formed = subst (λ ps. T (formed_procs u ps)) (sym same_procs) unit.bodies
 
-    pub ready : Ready u v arities starts (take k' c) (take l' f)
+    pub ready : Ready u v arities starts c f
     ready = record {
       view = cut_view s v laid.opened.cut u unit.row;
       arity = take_all (length laid.placed.procs) arities (omega (arith, simp length-map at (ap (λ (xs : List ℕ). length xs) laid.placed.arity))) ∙ sym laid.placed.arity;
       start = laid.placed.start;
       offers = unit.offers;
-      code_is = ap (λ n. take n c) same_k ∙ (w.code u callees well_formed ∙ ap (λ ps. code_words (code_procs u 0 ps)) same_procs);
-      fits_are = ap (λ n. take n f) same_l ∙ (w.fits u callees well_formed ∙ ap (λ ps. row_fits (code_fits 0 (code_procs u 0 ps))) same_procs);
+      code_is = w.code u callees well_formed ∙ ap (λ ps. code_words (code_procs u 0 ps)) same_procs;
+      fits_are = w.fits u callees well_formed ∙ ap (λ ps. row_fits (code_fits 0 (code_procs u 0 ps))) same_procs;
     }
 
-    pub object_short : object_size v (take k' c) (take l' f) ≤ 10 * length s + 6
-    object_short = omega (arith, ready_size u v arities starts (take k' c) (take l' f) ready, short_row s u unit)
+    pub object_short : object_size v c f ≤ 10 * length s + 6
+    object_short = omega (arith, ready_size u v arities starts c f ready, short_row s u unit)
+
+    pub unit_written : (old new : List ℕ) (n : ℕ) → WritesObject l c f old new n → UnitWritten s old new n
+    unit_written old new n writes = record { unit = u; row = unit; written = writes u ready }

@@ -1,5 +1,5 @@
 -- All procedures of a unit do what they should, by how deep calls stand in one another.
-use Rattle.std.proofs.Common.{◌≡◌, ℕ, zero, suc, ◌+◌, ◌-◌, ◌<◌, Bool, true, false, cond, T, ltb, List, [], ◌∷◌, length, get_or, take, Some, None, Option, sym, refl, ap, ◌∙◌, subst, subst₂, add-zero, arith}
+use Rattle.std.proofs.Common.{◌≡◌, ℕ, zero, suc, ◌+◌, ◌-◌, ◌<◌, Bool, true, false, cond, T, ltb, List, [], ◌∷◌, length, get_or, take, Some, Option, sym, refl, ap, ◌∙◌, subst, subst₂, add-zero, arith}
 use Rattle.std.specs.Option.{option_map}
 use Rattle.std.specs.List.{slice_get}
 use Rattle.rows.specs.Units.{Want, Proc, SourceUnit}
@@ -7,12 +7,14 @@ use Rattle.rows.specs.Frames.{frame}
 use Rattle.rows.specs.Formed.{formed, formed_procs}
 use Rattle.semantics.specs.Runs.{spend, enter, eval}
 use Rattle.semantics.specs.Relation.{total, Imports, run_unit, Entered, Outcome, Simulates, Placed}
+use Rattle.rows.proofs.Decided.{mapped_some}
 use Rattle.compiler.specs.Instructions.{of_want, in_code, code_words, Place, placed_word}
 use Rattle.compiler.specs.Code.{size_proc, proc_at, code_proc, code_procs, code_unit, object}
 use Rattle.compiler.specs.Simulation.{Lies, Calls, CallsDo}
 use Rattle.compiler.proofs.Placing.{length_placed, fit_code}
 use Rattle.compiler.proofs.Lying.{Here, here, here_split, length_words_append, length_expr}
-use Rattle.compiler.proofs.Tests.{apart, none_some}
+use Rattle.rows.proofs.Decided.{T-parts}
+use Rattle.std.proofs.lemmas.Option.{none-some}
 use Rattle.compiler.proofs.Procedures.{proc_does}
 
 pub length_proc : (u : SourceUnit) (a : ℕ) (q : Proc) → length (code_words (code_proc u a q)) ≡ size_proc q
@@ -21,7 +23,7 @@ length_proc u a q = simp length_words_append (omega (arith, length_expr q.body u
 -- the code of procedure p stands where it should
 proc_here : (code : List ℕ) (l : Place) (u : SourceUnit) (qs : List Proc) (b p a : ℕ) (q : Proc) → slice_get qs p ≡ Some q → b + proc_at qs p ≡ a →
     Here code l b (code_procs u b qs) → Here code l a (code_proc u a q)
-proc_here code l u [] b p a q e k h = absurd (none_some q e)
+proc_here code l u [] b p a q e k h = absurd (none-some q e)
 proc_here code l u (r ∷ qs) b zero a q e k h =
     let same : r ≡ q = cc in
     let here_r = (here_split code l (code_proc u b r) (code_procs u (b + size_proc r) qs) b (b + size_proc r) (ap (λ (n : ℕ). b + n) (length_proc u b r)) h).0 in
@@ -31,9 +33,9 @@ proc_here code l u (r ∷ qs) b (suc p) a q e k h =
     (ap (λ (n : ℕ). b + n) (length_proc u b r)) h).1
 
 formed_proc : (u : SourceUnit) (qs : List Proc) (p : ℕ) (q : Proc) → slice_get qs p ≡ Some q → T (formed_procs u qs) → T (formed u q.args q.body)
-formed_proc u [] p q e f = absurd (none_some q e)
-formed_proc u (r ∷ qs) zero q e f = let same : r ≡ q = cc in subst (λ (c : Proc). T (formed u c.args c.body)) same (apart (formed u r.args r.body) (formed_procs u qs) f).0
-formed_proc u (r ∷ qs) (suc p) q e f = formed_proc u qs p q e (apart (formed u r.args r.body) (formed_procs u qs) f).1
+formed_proc u [] p q e f = absurd (none-some q e)
+formed_proc u (r ∷ qs) zero q e f = let same : r ≡ q = cc in subst (λ (c : Proc). T (formed u c.args c.body)) same (T-parts (formed u r.args r.body) (formed_procs u qs) f).0
+formed_proc u (r ∷ qs) (suc p) q e f = formed_proc u qs p q e (T-parts (formed u r.args r.body) (formed_procs u qs) f).1
 
 -- where the object of a unit lies
 abbrev pub lying : List ℕ → ℕ → ℕ → List ℕ → Place
@@ -42,10 +44,6 @@ lying shape i c ps = record { code = c; words = total (take i shape); wants = ps
 pub unit_lies : (u : SourceUnit) (code shape : List ℕ) (i c : ℕ) (ps : List ℕ) → Placed u (object u) code shape i c ps → Lies code (lying shape i c ps) 0 (code_unit u)
 unit_lies u code shape i c ps h =
     rw (add-zero, length_placed (lying shape i c ps) (code_unit u)) (h.lies ∙ fit_code (record { object = object u; code_at = c; words_at = total (take i shape) }) ps (code_unit u))
-
-mapped_is : {A : Type 0} (f : A → ℕ) (o : Option A) (k : ℕ) → option_map f o ≡ Some k → (w : A) × (o ≡ Some w) × (f w ≡ k)
-mapped_is f None k h = absurd (none_some k h)
-mapped_is f (Some w) k h = (w, refl, cc)
 
 module _ (u : SourceUnit) (code shape : List ℕ) (i c : ℕ) (ps : List ℕ) (placed : Placed u (object u) code shape i c ps) (f : T (formed_procs u u.procs)) (x : Imports) where
   -- calls of wants do what x says, less than d deep
@@ -72,11 +70,11 @@ module _ (u : SourceUnit) (code shape : List ℕ) (i c : ℕ) (ps : List ℕ) (p
       by_kind : (b : Bool) → cond b (option_map (λ (w : Want). w.args) (slice_get u.wants n)) (option_map (λ (q : Proc). q.args) (slice_get u.procs (n - length u.wants))) ≡ Some k →
           Entered shape (placed_word (lying shape i c ps) (cond b (of_want n) (in_code (proc_at u.procs (n - length u.wants))))) site room ws t m →
           Outcome code shape site t.left m (cond b (x d n room ws t) (run_unit d u i x (n - length u.wants) room ws t))
-      by_kind true h entered = let (w, there, same) = mapped_is (λ (w : Want). w.args) (slice_get u.wants n) k h in
-          wants d n w (omega arith) there site room ws t m (len ∙ sym same) (omega arith) entered
+      by_kind true h entered = let (w, there, same) = mapped_some (λ (w : Want). w.args) (slice_get u.wants n) k h in
+          wants d n w (omega arith) there site room ws t m (len ∙ same) (omega arith) entered
       by_kind false h entered =
-          let (q, there, same) = mapped_is (λ (q : Proc). q.args) (slice_get u.procs (n - length u.wants)) k h in
-          own (n - length u.wants) q there site room ws t m (len ∙ sym same) (omega arith)
+          let (q, there, same) = mapped_some (λ (q : Proc). q.args) (slice_get u.procs (n - length u.wants)) k h in
+          own (n - length u.wants) q there site room ws t m (len ∙ same) (omega arith)
           (subst (λ (a : ℕ). Entered shape a site room ws t m) (own_place (n - length u.wants) q there) entered)
 
   proc_runs : (d p : ℕ) (q : Proc) → slice_get u.procs p ≡ Some q → WantsBelow (suc d) → OwnDo d → Simulates code shape (suc d) (c + proc_at u.procs p) q.args (run_unit (suc d) u i x p)

@@ -1,5 +1,5 @@
 -- The code of expressions as it is written: parts one behind the other, and then what the sign adds.
-use Rattle.std.proofs.Common.{◌≡◌, ℕ, suc, ◌+◌, ◌≤◌, max, true, T, List, [], ◌∷◌, ◌++◌, length, drop, set, Some, None, Option, sym, refl, ap, ◌∙◌, subst, ap₂, arith, length-append, length-set}
+use Rattle.std.proofs.Common.{◌≡◌, ℕ, suc, ◌+◌, ◌<◌, ◌≤◌, max, true, T, List, [], ◌∷◌, ◌++◌, length, drop, Some, None, Option, sym, refl, ap, ◌∙◌, subst, ap₂, arith, length-append, length-set}
 use Rattle.std.proofs.lemmas.List.{append-nil, append_assoc, length-drop}
 use Rattle.rows.specs.Units.{Expr, if, Exprs, nil, cons, count, SourceUnit}
 use Rattle.rows.specs.Formed.{formed, formed_args}
@@ -17,35 +17,23 @@ use Rattle.rows.proofs.RightParts.{formed_parts, parts_right, node_right}
 use Rattle.rows.proofs.BodyReading.{sign_read, row_node}
 use Rattle.rows.specs.Objects.{Fit}
 use Rattle.machine.specs.Instructions as machine
-use Rattle.compiler.specs.Instructions.{plain, in_code, Instruction, instr, code_words, fit_operand}
+use Rattle.machine.specs.Instructions.{Opcode}
+use Rattle.compiler.specs.Instructions.{Operand, plain, in_code, Instruction, instr, code_words, fit_operand}
 use Rattle.compiler.specs.Code.{size, code_expr, code_args}
-use Rattle.compiler.specs.Writing.{State, Space, Gone, Wrote, WroteOne}
-use Rattle.compiler.specs.WritingExpressions.{CalleesOf, own_instruction, Simple, WroteExpr, NoExpr, NoParts, ExprSays, Shape, WroteParts, PartsSays, arguments, then_one, sequence, branch}
+use Rattle.compiler.specs.Writing.{State, changed, Space, SpaceOne, Gone, Wrote, WroteOne}
+use Rattle.compiler.specs.WritingExpressions.{callees_of, CalleesOf, own_instruction, Simple, WroteExpr, NoExpr, NoParts, ExprSays, Shape, WroteParts, PartsSays, then_one, sequence, branch}
 use Rattle.compiler.specs.declared.names.Names.{Names}
-use Rattle.compiler.proofs.Lying.{length_words_append, length_expr}
-use Rattle.compiler.proofs.Lengths.{height_row, heights_row}
-use Rattle.compiler.proofs.Lending.{wrote_none, wrote_more, wrote_as, filled_in}
-use Rattle.compiler.proofs.CodeParts.{code_simple, height_some, height_simple}
+use Rattle.compiler.proofs.Lying.{length_words_append, length_expr, length_args}
+use Rattle.compiler.proofs.Lengths.{row_there, height_row}
+use Rattle.compiler.proofs.Lending.{wrote_at, wrote_none, wrote_more, wrote_as, filled_in, one_at, one_fitted, plain_fitted}
+use Rattle.compiler.proofs.Pushing.{push, count-push, row-push, heights-push, depths-push, formed-push, push-formed, code-push}
+use Rattle.compiler.proofs.CodeParts.{code_simple, height_simple}
 
 -- what was read is not high
 pub height_small : (p : Names) (d : ℕ) (s s' : State) (h : ℕ) → WroteExpr p d s s' h → h + length s'.row ≤ length s.row
 height_small p d s s' h w = omega (arith, w.high, height_row w.expr, simp length-append at (ap (λ (xs : List ℕ). length xs) w.row))
 
-pub heights_small : (p : Names) (d n : ℕ) (s s' : State) (h : ℕ) → WroteParts p d n arguments s s' h → h + length s'.row ≤ length s.row
-heights_small p d n s s' h w = omega (arith, w.high, heights_row w.parts, simp length-append at (ap (λ (xs : List ℕ). length xs) w.row))
-
 module _ (p : Names) (d : ℕ) where
-  -- none are left
-  pub args_none : (n : ℕ) (s : State) → n ≡ 0 → WroteParts p d n arguments s s 0
-  args_none n s z = record {
-    parts = nil;
-    right = record { count = sym z; deep = omega arith; formed = tt };
-    row = refl;
-    high = refl;
-    gone = record { for_code = omega arith; for_fits = omega arith; code = refl; fits = refl };
-    writes = λ u callees t. wrote_none s;
-  }
-
   -- no first one
   pub none_first : (n m : ℕ) (row : List ℕ) → n ≡ suc m → NoExpr p d row → NoParts p d n row
   none_first n m row more none nil rest r q = omega (arith, r.count)
@@ -65,75 +53,107 @@ module _ (p : Names) (d : ℕ) where
   right_more : (n m : ℕ) (e : Expr) (es : Exprs) → n ≡ suc m → Right (outline p.scope) p.scope.args d e → RightParts (outline p.scope) p.scope.args d m es → RightParts (outline p.scope) p.scope.args d n (cons e es)
   right_more n m e es more g r = record { count = omega (arith, r.count); deep = omega (arith, r.deep, g.deep); formed = T-both (formed (outline p.scope) p.scope.args e) (formed_args (outline p.scope) p.scope.args es) g.formed r.formed }
 
-  pub args_more : (n m h l k : ℕ) (s s₁ s₂ : State) → n ≡ suc m → WroteExpr p d s s₁ h → WroteParts p d m arguments s₁ s₂ l → k ≡ max h (1 + l) → WroteParts p d n arguments s s₂ k
-  args_more n m h l k s s₁ s₂ more first others high = record {
-    parts = cons e es;
-    right = right_more n m e es more first.right others.right;
-    row = first.row ∙ (ap (λ xs. row_expr e ++ xs) others.row ∙ sym (append_assoc (row_expr e) (row_exprs es) s₂.row));
-    high = omega (arith, high, first.high, others.high);
-    gone = record { for_code = omega (arith, first.gone.for_code, others.gone.for_code); for_fits = omega (arith, first.gone.for_fits, others.gone.for_fits); code = others.gone.code ∙ first.gone.code; fits = others.gone.fits ∙ first.gone.fits };
-    writes = λ u callees t.
-        let ts = T-parts (formed u p.scope.args e) (formed_args u p.scope.args es) t in
-        let w = first.writes u callees ts.0 in
-        wrote_more (code_expr u s.at e) (code_args u (s.at + size e) es) s s₁ s₂ w
-        (subst (λ a. Wrote (code_args u a es) s₁ s₂) (w.at ∙ ap (λ m. s.at + m) (length_expr e u s.at)) (others.writes u callees ts.1));
-  }
-    where
-      e : Expr
-      e = first.expr
+  -- so many expressions were read and written, which hold at most h words and no less than one
+  pub record Several (n h : ℕ) (s s' : State) : Type 0 where
+    pub parts : Exprs
+    pub right : RightParts (outline p.scope) p.scope.args d n parts
+    pub row : s.row ≡ row_exprs parts ++ s'.row
+    pub high : h ≡ max (heights parts) 1
+    pub gone : Gone 0 0 s s'
+    pub writes : (u : SourceUnit) → CalleesOf (callees_of p) u → T (formed_args u p.scope.args parts) → Wrote (code_args u (length s.code) parts) s s'
 
-      es : Exprs
-      es = others.parts
-
-  -- and then an instruction
-  pub then_own : (n h k : ℕ) (i : Instruction) (s s₁ s₂ : State) → WroteParts p d n arguments s s₁ h → WroteOne 3 i s₁ s₂ → k ≡ max h 1 → WroteParts p d n (then_one i) s s₂ k
-  then_own n h k i s s₁ s₂ before own high = record {
-    parts = before.parts;
-    right = before.right;
-    row = before.row ∙ ap (λ xs. row_exprs before.parts ++ xs) (sym own.row);
-    high = omega (arith, high, before.high);
-    gone = record {
-      for_code = omega (arith, before.gone.for_code, own.at, ap (λ (xs : List ℕ). length xs) own.row);
-      for_fits = omega (arith, before.gone.for_fits, own.fitted, ap (λ (xs : List ℕ). length xs) own.row);
-      code = own.code ∙ before.gone.code;
-      fits = own.fits ∙ before.gone.fits;
-    };
-    writes = λ u callees t. wrote_more (code_args u s.at before.parts) (i ∷ []) s s₁ s₂ (before.writes u callees t) own.wrote;
+  pub several_none : (s : State) → Several 0 1 s s
+  several_none s = record {
+    parts = nil;
+    right = record { count = refl; deep = omega arith; formed = tt };
+    row = refl;
+    high = refl;
+    gone = record { grows = omega arith; for_code = omega arith; for_fits = omega arith; code = refl; fits = refl };
+    writes = λ u callees t. wrote_none s;
   }
 
-  -- no expression, one or two, and then an instruction
-  pub leaf_written : (i : Instruction) (s s₁ : State) → WroteOne 3 i s s₁ → WroteParts p d 0 (then_one i) s s₁ 1
-  leaf_written i s s₁ own = then_own 0 0 1 i s s s₁ (args_none 0 s refl) own refl
+  module _ (n h : ℕ) (s s₁ : State) (so_far : Several n h s s₁) where
+    abbrev es : Exprs
+    es = so_far.parts
 
-  pub unary_written : (h : ℕ) (i : Instruction) (s s₁ s₂ : State) → WroteExpr p d s s₁ h → WroteOne 3 i s₁ s₂ → WroteParts p d 1 (then_one i) s s₂ h
-  unary_written h i s s₁ s₂ first own = then_own 1 (max h (1 + 0)) h i s s₁ s₂ (args_more 1 0 h 0 (max h (1 + 0)) s s₁ s₁ refl first (args_none 0 s₁ refl) refl) own (omega (arith, first.high, height_some first.expr))
+    -- one more
+    pub several_more : (l k : ℕ) (s₂ : State) → WroteExpr p d s₁ s₂ l → k ≡ max h (n + l) → Several (n + 1) k s s₂
+    several_more l k s₂ one high = record {
+      parts = push es e;
+      right = record { count = omega (arith, count-push es e, so_far.right.count); deep = depths-push d es e so_far.right.deep one.right.deep; formed = formed-push (outline p.scope) p.scope.args es e so_far.right.formed one.right.formed };
+      row = so_far.row ∙ (ap (λ xs. row_exprs es ++ xs) one.row ∙ (sym (append_assoc (row_exprs es) (row_expr e) s₂.row) ∙ ap (λ xs. xs ++ s₂.row) (sym (row-push es e))));
+      high = omega (arith, high, so_far.high, one.high, heights-push es e, so_far.right.count);
+      gone = record { grows = omega (arith, so_far.gone.grows, one.gone.grows); for_code = omega (arith, so_far.gone.for_code, one.gone.for_code); for_fits = omega (arith, so_far.gone.for_fits, one.gone.for_fits); code = one.gone.code ∙ so_far.gone.code; fits = one.gone.fits ∙ so_far.gone.fits };
+      writes = λ u callees t.
+          let ts = push-formed u p.scope.args es e t in
+          let w = so_far.writes u callees ts.0 in
+          wrote_as _ _ s s₂ (sym (code-push u (length s.code) (length s₁.code) es e (omega (arith, wrote_at _ s s₁ w, length_args es u (length s.code)))))
+          (wrote_more _ _ s s₁ s₂ w (one.writes u callees ts.1));
+    }
+      where
+        e : Expr
+        e = one.expr
 
-  pub binary_written : (h l k : ℕ) (i : Instruction) (s s₁ s₂ s₃ : State) → WroteExpr p d s s₁ h → WroteExpr p d s₁ s₂ l → WroteOne 3 i s₂ s₃ → k ≡ max h (1 + l) → WroteParts p d 2 (then_one i) s s₃ k
-  binary_written h l k i s s₁ s₂ s₃ first second own high =
-      then_own 2 (max h (1 + max l (1 + 0))) k i s s₂ s₃
-      (args_more 2 1 h (max l (1 + 0)) (max h (1 + max l (1 + 0))) s s₁ s₂ refl first (args_more 1 0 l 0 (max l (1 + 0)) s₁ s₂ s₂ refl second (args_none 0 s₂ refl) refl) refl) own
-      (omega (arith, high, first.high, height_some first.expr, second.high, height_some second.expr))
+    -- the words that they took bound how many there are, and how high the next one may be
+    pub several_small : (l : ℕ) (s₂ : State) → WroteExpr p d s₁ s₂ l → n + l + length s₂.row ≤ length s.row
+    several_small l s₂ one = omega (arith, height_small p d s₁ s₂ l one, counted es, so_far.right.count, simp length-append at (ap (λ (xs : List ℕ). length xs) so_far.row))
+      where
+        counted : (es : Exprs) → count es ≤ length (row_exprs es)
+        counted nil = omega arith
+        counted (cons e es) = omega (arith, counted es, row_there e, length-append (row_expr e) (row_exprs es))
+
+    -- no next one
+    pub none_next : (m : ℕ) → n < m → NoExpr p d s₁.row → NoParts p d m s.row
+    none_next m more none fs rest r q = go es s.row m fs so_far.row (omega (arith, more, so_far.right.count)) r q
+      where
+        go : (es : Exprs) (row : List ℕ) (m : ℕ) (fs : Exprs) → row ≡ row_exprs es ++ s₁.row → count es < m → RightParts (outline p.scope) p.scope.args d m fs → row ≡ row_exprs fs ++ rest → ⊥
+        go es row m nil is less r q = omega (arith, r.count, less)
+        go nil row m (cons f fs) is less r q =
+            let t = T-parts (formed (outline p.scope) p.scope.args f) (formed_args (outline p.scope) p.scope.args fs) r.formed in
+            none f (row_exprs fs ++ rest) (record { deep = omega (arith, r.deep); formed = t.0 }) (sym is ∙ (q ∙ append_assoc (row_expr f) (row_exprs fs) rest))
+        go (cons e es) row m (cons f fs) is less r q =
+            let t = T-parts (formed (outline p.scope) p.scope.args f) (formed_args (outline p.scope) p.scope.args fs) r.formed in
+            let o = one_expr e f (row_exprs es ++ s₁.row) (row_exprs fs ++ rest) (sym (append_assoc (row_expr e) (row_exprs es) s₁.row) ∙ (sym is ∙ (q ∙ append_assoc (row_expr f) (row_exprs fs) rest))) in
+            go es (row_exprs es ++ s₁.row) (count fs) fs refl (omega (arith, r.count, less)) (record { count = refl; deep = omega (arith, r.deep); formed = t.1 }) o.1
+
+    -- and then an instruction
+    pub then_own : (m : ℕ) (o : Opcode) (x : Operand) (s₂ : State) → n ≡ m → WroteOne (instr o x) s₁ s₂ → WroteParts p d m (then_one (instr o x)) s s₂ h
+    then_own m o x s₂ all own = record {
+      parts = es;
+      right = record { count = so_far.right.count ∙ all; deep = so_far.right.deep; formed = so_far.right.formed };
+      row = so_far.row ∙ ap (λ xs. row_exprs es ++ xs) (sym own.row);
+      high = so_far.high;
+      gone = record {
+        grows = omega (arith, so_far.gone.grows, one_at o x s₁ s₂ own);
+        for_code = omega (arith, so_far.gone.for_code, one_at o x s₁ s₂ own, ap (λ (xs : List ℕ). length xs) own.row);
+        for_fits = omega (arith, so_far.gone.for_fits, one_fitted o x s₁ s₂ own, ap (λ (xs : List ℕ). length xs) own.row);
+        code = own.code ∙ so_far.gone.code;
+        fits = own.fits ∙ so_far.gone.fits;
+      };
+      writes = λ u callees t. wrote_more (code_args u (length s.code) es) (instr o x ∷ []) s s₁ s₂ (so_far.writes u callees t) own.wrote;
+    }
 
   -- an expression, whose value is dropped, and then another
-  pub sequence_written : (h l k : ℕ) (s s₁ s₂ s₃ : State) → WroteExpr p d s s₁ h → WroteOne 0 (instr machine.Pop (plain 0)) s₁ s₂ → WroteExpr p d s₂ s₃ l → k ≡ max h l → WroteParts p d 2 sequence s s₃ k
+  pub sequence_written : (h l k : ℕ) (s s₁ s₂ s₃ : State) → WroteExpr p d s s₁ h → WroteOne (instr machine.Pop (plain 0)) s₁ s₂ → WroteExpr p d s₂ s₃ l → k ≡ max h l → WroteParts p d 2 sequence s s₃ k
   sequence_written h l k s s₁ s₂ s₃ first own second high = record {
     parts = cons x (cons y nil);
     right = right_more 2 1 x (cons y nil) refl first.right (right_more 1 0 y nil refl second.right (record { count = refl; deep = omega arith; formed = tt }));
     row = first.row ∙ (ap (λ xs. row_expr x ++ xs) (sym own.row ∙ second.row) ∙ simp (append-nil, append_assoc));
     high = omega (arith, high, first.high, second.high);
     gone = let e = ap (λ (xs : List ℕ). length xs) own.row in record {
-      for_code = omega (arith, first.gone.for_code, second.gone.for_code, own.at);
-      for_fits = omega (arith, first.gone.for_fits, second.gone.for_fits, own.fitted);
+      grows = omega (arith, first.gone.grows, second.gone.grows, one_at _ _ s₁ s₂ own);
+      for_code = omega (arith, first.gone.for_code, second.gone.for_code, one_at _ _ s₁ s₂ own);
+      for_fits = omega (arith, first.gone.for_fits, second.gone.for_fits, plain_fitted _ 0 s₁ s₂ own);
       code = second.gone.code ∙ (own.code ∙ first.gone.code);
       fits = second.gone.fits ∙ (own.fits ∙ first.gone.fits);
     };
     writes = λ u callees t.
         let ts = T-parts (formed u p.scope.args x) (formed_args u p.scope.args (cons y nil)) t in
         let w = first.writes u callees ts.0 in
-        let there : s₂.at ≡ s.at + size x + 2 = omega (arith, own.at, w.at, length_expr x u s.at) in
+        let there : length s₂.code ≡ length s.code + size x + 2 = omega (arith, one_at _ _ s₁ s₂ own, wrote_at _ s s₁ w, length_expr x u (length s.code)) in
         let v = subst (λ a. Wrote (code_expr u a y) s₂ s₃) there (second.writes u callees (T-parts (formed u p.scope.args y) true ts.1).0) in
-        wrote_more (code_expr u s.at x) (instr machine.Pop (plain 0) ∷ code_expr u (s.at + size x + 2) y) s s₁ s₃ w
-        (wrote_more (instr machine.Pop (plain 0) ∷ []) (code_expr u (s.at + size x + 2) y) s₁ s₂ s₃ own.wrote v);
+        wrote_more (code_expr u (length s.code) x) (instr machine.Pop (plain 0) ∷ code_expr u (length s.code + size x + 2) y) s s₁ s₃ w
+        (wrote_more (instr machine.Pop (plain 0) ∷ []) (code_expr u (length s.code + size x + 2) y) s₁ s₂ s₃ own.wrote v);
   }
     where
       x : Expr
@@ -146,18 +166,14 @@ module _ (p : Names) (d : ℕ) where
 alike : (n m b : ℕ) (fs : List Fit) → fit_operand b (in_code n) fs ≡ fit_operand b (in_code m) fs
 alike n m b fs = refl
 
--- the same with words at one place of the code changed
-abbrev pub changed : State → ℕ → ℕ → State
-changed s i v = record { row = s.row; code = set s.code i v; at = s.at; fits = s.fits; fitted = s.fitted }
-
 -- a condition, a jump, the first way, a jump, and the second way; each jump is filled in when its target is known
-module _ (p : Names) (d : ℕ) (s s₁ s₂ s₃ s₄ s₆ : State) (t₁ t₂ h l k : ℕ) (i j : Instruction) (test : WroteExpr p d s s₁ h) (own : WroteOne 3 i s₁ s₂) (first : WroteExpr p d s₂ s₃ l) (own₂ : WroteOne 3 j s₃ s₄)
-    (second : WroteExpr p d (changed s₄ (s₁.at + 1) t₁) s₆ k) (space : Space 4 6 s) (is : i ≡ instr machine.JumpIfZero (in_code 0)) (js : j ≡ instr machine.Jump (in_code 0)) (to_second : t₁ ≡ s₄.at) (to_end : t₂ ≡ s₆.at) where
+module _ (p : Names) (d : ℕ) (s s₁ s₂ s₃ s₄ s₆ : State) (t₁ t₂ h l k : ℕ) (test : WroteExpr p d s s₁ h) (own : WroteOne (instr machine.JumpIfZero (in_code 0)) s₁ s₂) (first : WroteExpr p d s₂ s₃ l)
+    (own₂ : WroteOne (instr machine.Jump (in_code 0)) s₃ s₄) (second : WroteExpr p d (changed s₄ (length s₁.code + 1) t₁) s₆ k) (to_second : t₁ ≡ length s₄.code) (to_end : t₂ ≡ length s₆.code) where
   abbrev s₅ : State
-  s₅ = changed s₄ (s₁.at + 1) t₁
+  s₅ = changed s₄ (length s₁.code + 1) t₁
 
   abbrev s₇ : State
-  s₇ = changed s₆ (s₃.at + 1) t₂
+  s₇ = changed s₆ (length s₃.code + 1) t₂
 
   abbrev x : Expr
   x = test.expr
@@ -174,81 +190,76 @@ module _ (p : Names) (d : ℕ) (s s₁ s₂ s₃ s₄ s₆ : State) (t₁ t₂ h
   same_length₂ : length s₄.row ≡ length s₃.row
   same_length₂ = ap (λ (xs : List ℕ). length xs) own₂.row
 
-  lent₂ : length s₄.code ≡ length s.code
-  lent₂ = own₂.code ∙ (first.gone.code ∙ (own.code ∙ test.gone.code))
+  at₂ : length s₂.code ≡ length s₁.code + 2
+  at₂ = one_at _ _ s₁ s₂ own
 
-  lent₃ : length s₆.code ≡ length s.code
-  lent₃ = second.gone.code ∙ (length-set s₄.code (s₁.at + 1) t₁ ∙ lent₂)
+  at₄ : length s₅.code ≡ length s₃.code + 2
+  at₄ = length-set s₄.code (length s₁.code + 1) t₁ ∙ one_at _ _ s₃ s₄ own₂
 
-  inside : s.at ≤ length s.code
-  inside = omega (arith, space.for_code)
-
-  inside₂ : s₄.at ≤ length s₄.code
-  inside₂ = omega (arith, space.for_code, test.gone.for_code, first.gone.for_code, own.at, own₂.at, same_length, same_length₂, lent₂)
-
-  inside₃ : s₆.at ≤ length s₆.code
-  inside₃ = omega (arith, space.for_code, test.gone.for_code, first.gone.for_code, second.gone.for_code, own.at, own₂.at, same_length, same_length₂, lent₃)
+  at₇ : length s₇.code ≡ length s₆.code
+  at₇ = length-set s₆.code (length s₃.code + 1) t₂
 
   branch_gone : Gone 4 6 s s₇
   branch_gone = record {
-    for_code = omega (arith, test.gone.for_code, first.gone.for_code, second.gone.for_code, own.at, own₂.at, same_length, same_length₂);
-    for_fits = omega (arith, test.gone.for_fits, first.gone.for_fits, second.gone.for_fits, own.fitted, own₂.fitted, same_length, same_length₂);
-    code = length-set s₆.code (s₃.at + 1) t₂ ∙ lent₃;
+    grows = omega (arith, test.gone.grows, first.gone.grows, second.gone.grows, at₂, at₄, at₇);
+    for_code = omega (arith, test.gone.for_code, first.gone.for_code, second.gone.for_code, at₂, at₄, at₇, same_length, same_length₂);
+    for_fits = omega (arith, test.gone.for_fits, first.gone.for_fits, second.gone.for_fits, one_fitted _ _ s₁ s₂ own, one_fitted _ _ s₃ s₄ own₂, same_length, same_length₂);
+    code = second.gone.code ∙ (own₂.code ∙ (first.gone.code ∙ (own.code ∙ test.gone.code)));
     fits = second.gone.fits ∙ (own₂.fits ∙ (first.gone.fits ∙ (own.fits ∙ test.gone.fits)));
   }
 
-  branch_code : (u : SourceUnit) → CalleesOf p.callees u → T (formed u p.scope.args x) → T (formed u p.scope.args y) → T (formed u p.scope.args z) → Wrote (code_expr u s.at (if x y z)) s s₇
+  branch_code : (u : SourceUnit) → CalleesOf (callees_of p) u → T (formed u p.scope.args x) → T (formed u p.scope.args y) → T (formed u p.scope.args z) → Wrote (code_expr u (length s.code) (if x y z)) s s₇
   branch_code u callees tx ty tz = wrote_as _ _ s s₇ all_same ends
     where
       a : ℕ
-      a = s.at
+      a = length s.code
 
       w : Wrote (code_expr u a x) s s₁
       w = test.writes u callees tx
 
-      long_x : s₂.at ≡ a + size x + 2
-      long_x = omega (arith, own.at, w.at, length_expr x u a)
+      long_x : length s₂.code ≡ a + size x + 2
+      long_x = omega (arith, at₂, wrote_at _ s s₁ w, length_expr x u a)
 
-      v : Wrote (code_expr u s₂.at y) s₂ s₃
+      v : Wrote (code_expr u (length s₂.code) y) s₂ s₃
       v = first.writes u callees ty
 
-      long_y : s₄.at ≡ a + size x + 2 + size y + 2
-      long_y = omega (arith, own₂.at, v.at, length_expr y u s₂.at, long_x)
+      long_y : length s₅.code ≡ a + size x + 2 + size y + 2
+      long_y = omega (arith, at₄, wrote_at _ s₂ s₃ v, length_expr y u (length s₂.code), long_x)
 
-      r : Wrote (code_expr u s₅.at z) s₅ s₆
+      r : Wrote (code_expr u (length s₅.code) z) s₅ s₆
       r = second.writes u callees tz
 
-      long_z : s₆.at ≡ a + size x + 2 + size y + 2 + size z
-      long_z = omega (arith, r.at, length_expr z u s₅.at, long_y)
+      long_z : length s₆.code ≡ a + size x + 2 + size y + 2 + size z
+      long_z = omega (arith, wrote_at _ s₅ s₆ r, length_expr z u (length s₅.code), long_y)
 
-      to_four : Wrote (code_expr u a x ++ (instr machine.JumpIfZero (in_code 0) ∷ (code_expr u s₂.at y ++ (j ∷ [])))) s s₄
-      to_four = wrote_more (code_expr u a x) _ s s₁ s₄ w (wrote_more (instr machine.JumpIfZero (in_code 0) ∷ []) _ s₁ s₂ s₄ (subst (λ o. Wrote (o ∷ []) s₁ s₂) is own.wrote) (wrote_more (code_expr u s₂.at y) (j ∷ []) s₂ s₃ s₄ v own₂.wrote))
+      to_four : Wrote (code_expr u a x ++ (instr machine.JumpIfZero (in_code 0) ∷ (code_expr u (length s₂.code) y ++ (instr machine.Jump (in_code 0) ∷ [])))) s s₄
+      to_four = wrote_more (code_expr u a x) _ s s₁ s₄ w (wrote_more (instr machine.JumpIfZero (in_code 0) ∷ []) _ s₁ s₂ s₄ own.wrote (wrote_more (code_expr u (length s₂.code) y) (instr machine.Jump (in_code 0) ∷ []) s₂ s₃ s₄ v own₂.wrote))
 
-      to_five : Wrote (code_expr u a x ++ (instr machine.JumpIfZero (in_code t₁) ∷ (code_expr u s₂.at y ++ (j ∷ [])))) s s₅
-      to_five = filled_in machine.JumpIfZero (in_code 0) (in_code t₁) (alike 0 t₁) (code_expr u a x) _ s s₄ (s₁.at + 1) inside inside₂ to_four (ap (λ n. n + 1) w.at)
+      to_five : Wrote (code_expr u a x ++ (instr machine.JumpIfZero (in_code t₁) ∷ (code_expr u (length s₂.code) y ++ (instr machine.Jump (in_code 0) ∷ [])))) s s₅
+      to_five = filled_in machine.JumpIfZero (in_code 0) (in_code t₁) (alike 0 t₁) (code_expr u a x) _ s s₄ (length s₁.code + 1) to_four (ap (λ n. n + 1) (wrote_at _ s s₁ w))
 
-      to_six : Wrote ((code_expr u a x ++ (instr machine.JumpIfZero (in_code t₁) ∷ code_expr u s₂.at y)) ++ (instr machine.Jump (in_code 0) ∷ code_expr u s₅.at z)) s s₆
-      to_six = wrote_as _ _ s s₆ regroup (wrote_more _ (code_expr u s₅.at z) s s₅ s₆ to_five r)
+      to_six : Wrote ((code_expr u a x ++ (instr machine.JumpIfZero (in_code t₁) ∷ code_expr u (length s₂.code) y)) ++ (instr machine.Jump (in_code 0) ∷ code_expr u (length s₅.code) z)) s s₆
+      to_six = wrote_as _ _ s s₆ regroup (wrote_more _ (code_expr u (length s₅.code) z) s s₅ s₆ to_five r)
         where
-          regroup : (code_expr u a x ++ (instr machine.JumpIfZero (in_code t₁) ∷ (code_expr u s₂.at y ++ (j ∷ [])))) ++ code_expr u s₅.at z ≡ (code_expr u a x ++ (instr machine.JumpIfZero (in_code t₁) ∷ code_expr u s₂.at y)) ++ (instr machine.Jump (in_code 0) ∷ code_expr u s₅.at z)
-          regroup = rw js (simp append_assoc)
+          regroup : (code_expr u a x ++ (instr machine.JumpIfZero (in_code t₁) ∷ (code_expr u (length s₂.code) y ++ (instr machine.Jump (in_code 0) ∷ [])))) ++ code_expr u (length s₅.code) z ≡ (code_expr u a x ++ (instr machine.JumpIfZero (in_code t₁) ∷ code_expr u (length s₂.code) y)) ++ (instr machine.Jump (in_code 0) ∷ code_expr u (length s₅.code) z)
+          regroup = simp append_assoc
 
-      place : s₃.at + 1 ≡ a + length (code_words (code_expr u a x ++ (instr machine.JumpIfZero (in_code t₁) ∷ code_expr u s₂.at y))) + 1
-      place = omega (arith, v.at, long_x, length_expr x u a, length_words_append (code_expr u a x) (instr machine.JumpIfZero (in_code t₁) ∷ code_expr u s₂.at y))
+      place : length s₃.code + 1 ≡ a + length (code_words (code_expr u a x ++ (instr machine.JumpIfZero (in_code t₁) ∷ code_expr u (length s₂.code) y))) + 1
+      place = omega (arith, wrote_at _ s₂ s₃ v, long_x, length_expr x u a, length_words_append (code_expr u a x) (instr machine.JumpIfZero (in_code t₁) ∷ code_expr u (length s₂.code) y))
 
-      ends : Wrote ((code_expr u a x ++ (instr machine.JumpIfZero (in_code t₁) ∷ code_expr u s₂.at y)) ++ (instr machine.Jump (in_code t₂) ∷ code_expr u s₅.at z)) s s₇
-      ends = filled_in machine.Jump (in_code 0) (in_code t₂) (alike 0 t₂) (code_expr u a x ++ (instr machine.JumpIfZero (in_code t₁) ∷ code_expr u s₂.at y)) (code_expr u s₅.at z) s s₆ (s₃.at + 1) inside inside₃ to_six place
+      ends : Wrote ((code_expr u a x ++ (instr machine.JumpIfZero (in_code t₁) ∷ code_expr u (length s₂.code) y)) ++ (instr machine.Jump (in_code t₂) ∷ code_expr u (length s₅.code) z)) s s₇
+      ends = filled_in machine.Jump (in_code 0) (in_code t₂) (alike 0 t₂) (code_expr u a x ++ (instr machine.JumpIfZero (in_code t₁) ∷ code_expr u (length s₂.code) y)) (code_expr u (length s₅.code) z) s s₆ (length s₃.code + 1) to_six place
 
       first_target : t₁ ≡ a + size x + 2 + size y + 2
-      first_target = to_second ∙ long_y
+      first_target = to_second ∙ (sym (length-set s₄.code (length s₁.code + 1) t₁) ∙ long_y)
 
       last_target : t₂ ≡ a + size x + 2 + size y + 2 + size z
       last_target = to_end ∙ long_z
 
-      all_same : (code_expr u a x ++ (instr machine.JumpIfZero (in_code t₁) ∷ code_expr u s₂.at y)) ++ (instr machine.Jump (in_code t₂) ∷ code_expr u s₅.at z) ≡ code_expr u a (if x y z)
+      all_same : (code_expr u a x ++ (instr machine.JumpIfZero (in_code t₁) ∷ code_expr u (length s₂.code) y)) ++ (instr machine.Jump (in_code t₂) ∷ code_expr u (length s₅.code) z) ≡ code_expr u a (if x y z)
       all_same =
-          append_assoc (code_expr u a x) (instr machine.JumpIfZero (in_code t₁) ∷ code_expr u s₂.at y) (instr machine.Jump (in_code t₂) ∷ code_expr u s₅.at z) ∙
-          (ap₂ (λ b t. laid b t s₅.at t₂) long_x first_target ∙ ap₂ (laid (a + size x + 2) (a + size x + 2 + size y + 2)) long_y last_target)
+          append_assoc (code_expr u a x) (instr machine.JumpIfZero (in_code t₁) ∷ code_expr u (length s₂.code) y) (instr machine.Jump (in_code t₂) ∷ code_expr u (length s₅.code) z) ∙
+          (ap₂ (λ b t. laid b t (length s₅.code) t₂) long_x first_target ∙ ap₂ (laid (a + size x + 2) (a + size x + 2 + size y + 2)) long_y last_target)
         where
           laid : ℕ → ℕ → ℕ → ℕ → List Instruction
           laid b t c e = code_expr u a x ++ (instr machine.JumpIfZero (in_code t) ∷ (code_expr u b y ++ (instr machine.Jump (in_code e) ∷ code_expr u c z)))
@@ -268,13 +279,20 @@ module _ (p : Names) (d : ℕ) (s s₁ s₂ s₃ s₄ s₆ : State) (t₁ t₂ h
 
 -- the same with another row
 abbrev pub reading : State → List ℕ → State
-reading s r = record { row = r; code = s.code; at = s.at; fits = s.fits; fitted = s.fitted }
+reading s r = record { row = r; code = s.code; code_lent = s.code_lent; fits = s.fits; fits_lent = s.fits_lent }
 
 -- a sign is a word or more, which is space for its own instructions
-pub space_behind : (s : State) (r : List ℕ) (n : ℕ) (sign : Sign) → Begins s.row n (row_sign sign) → r ≡ drop n s.row → Space 0 0 s → Space 2 3 (reading s r)
-space_behind s r n sign read is space =
-    let shorter = ap (λ (xs : List ℕ). length xs) is in
-    record { for_code = omega (arith, space.for_code, length-drop n s.row, read.size, read.inside, sign_some sign); for_fits = omega (arith, space.for_fits, length-drop n s.row, read.size, read.inside, sign_some sign); words = space.words }
+-- the same where the places and the changed words are told by equations
+pub branch_filled : (p : Names) (d : ℕ) (s s₁ s₂ s₃ s₄ a s₆ b : State) (i₁ i₂ t₁ t₂ h l k m n : ℕ) → WroteExpr p d s s₁ h → i₁ ≡ length s₁.code + 1 → WroteOne (instr machine.JumpIfZero (in_code 0)) s₁ s₂ →
+    WroteExpr p d s₂ s₃ l → i₂ ≡ length s₃.code + 1 → WroteOne (instr machine.Jump (in_code 0)) s₃ s₄ → t₁ ≡ length s₄.code → a ≡ changed s₄ i₁ t₁ → WroteExpr p d a s₆ k → t₂ ≡ length s₆.code → b ≡ changed s₆ i₂ t₂ →
+    m ≡ max n k → n ≡ max h l → WroteParts p d 3 branch s b m
+branch_filled p d s s₁ s₂ s₃ s₄ a s₆ b i₁ i₂ t₁ t₂ h l k m n test at₁ own first at₂ own₂ to_second is_a second to_end is_b high higher =
+    subst (λ z. WroteParts p d 3 branch s z m) (sym (is_b ∙ ap (λ i. changed s₆ i t₂) at₂))
+    (branch_written p d s s₁ s₂ s₃ s₄ s₆ t₁ t₂ h l k test own first own₂ (subst (λ z. WroteExpr p d z s₆ k) (is_a ∙ ap (λ i. changed s₄ i t₁) at₁) second) to_second to_end m n high higher)
+
+-- there is space for one instruction, whatever parts were written
+pub space_one : (c f : ℕ) (s s₁ : State) → Space (c + 2) (f + 3) s → Gone c f s s₁ → SpaceOne s₁
+space_one c f s s₁ space gone = record { for_code = omega (arith, space.for_code, gone.for_code, gone.code); for_fits = omega (arith, space.for_fits, gone.for_fits, gone.fits); words = omega (arith, space.words, gone.code) }
 
 -- a sign stands in front of its parts, which are at the front of the row r
 module _ (p : Names) (d d' n : ℕ) (sign : Sign) (s s₂ : State) (r : List ℕ) (read : Begins s.row n (row_sign sign)) (less : d ≡ suc d') (permitted : allowed (outline p.scope) p.scope.args sign ≡ true) (behind : r ≡ drop n s.row) where
@@ -286,10 +304,10 @@ module _ (p : Names) (d d' n : ℕ) (sign : Sign) (s s₂ : State) (r : List ℕ
     pub few_code : f.own_code ≤ 4
     pub few_fits : f.own_fits ≤ 6
     pub as_high : (es : Exprs) → count es ≡ part_count sign → f.high es ≡ height (node sign es)
-    pub as_code : (u : SourceUnit) (a : ℕ) (es : Exprs) → count es ≡ part_count sign → CalleesOf p.callees u → T (formed u p.scope.args (node sign es)) → f.code u a es ≡ code_expr u a (node sign es)
+    pub as_code : (u : SourceUnit) (a : ℕ) (es : Exprs) → count es ≡ part_count sign → CalleesOf (callees_of p) u → T (formed u p.scope.args (node sign es)) → f.code u a es ≡ code_expr u a (node sign es)
 
   from_before : (is : List Instruction) → Wrote is s₁ s₂ → Wrote is s s₂
-  from_before is w = record { at = w.at; code = w.code; fitted = w.fitted; fits = w.fits }
+  from_before is w = record { code = w.code; fits = w.fits }
 
   none_arm : (m : ℕ) (f : Shape) → m ≡ part_count sign → PartsSays p d' m f s₁ s₂ None → ExprSays p d s s₂ None
   none_arm m f asked none e rest right q =
@@ -303,12 +321,13 @@ module _ (p : Names) (d d' n : ℕ) (sign : Sign) (s s₂ : State) (r : List ℕ
     row = read.begins ∙ (ap (λ xs. row_sign sign ++ xs) (sym behind ∙ w.row) ∙ (sym (append_assoc (row_sign sign) (row_exprs es) s₂.row) ∙ ap (λ xs. xs ++ s₂.row) (sym (row_node sign es counted))));
     high = w.high ∙ agrees.as_high es counted;
     gone = record {
+      grows = w.gone.grows;
       for_code = omega (arith, w.gone.for_code, shorter, agrees.few_code);
       for_fits = omega (arith, w.gone.for_fits, shorter, agrees.few_fits);
       code = w.gone.code;
       fits = w.gone.fits;
     };
-    writes = λ u callees t. wrote_as _ _ s s₂ (agrees.as_code u s.at es counted callees t) (from_before _ (w.writes u callees (parts_formed u t)));
+    writes = λ u callees t. wrote_as _ _ s s₂ (agrees.as_code u (length s.code) es counted callees t) (from_before _ (w.writes u callees (parts_formed u t)));
   }
     where
       es : Exprs
@@ -332,7 +351,7 @@ module _ (p : Names) (d d' n : ℕ) (sign : Sign) (s s₂ : State) (r : List ℕ
   arm m f None asked agrees says = none_arm m f asked says
   arm m f (Some h) asked agrees says = some_arm m h f asked agrees says
 
-  pub simple_arm : (m : ℕ) (i : Instruction) (a : Option ℕ) → Simple sign → m ≡ part_count sign → i ≡ own_instruction p.callees sign → PartsSays p d' m (then_one i) s₁ s₂ a → ExprSays p d s s₂ a
+  pub simple_arm : (m : ℕ) (i : Instruction) (a : Option ℕ) → Simple sign → m ≡ part_count sign → i ≡ own_instruction (callees_of p) sign → PartsSays p d' m (then_one i) s₁ s₂ a → ExprSays p d s s₂ a
   simple_arm m i o simple asked own says = arm m (then_one i) o asked (record { few_code = omega arith; few_fits = omega arith; as_high = high; as_code = code_as }) says
     where
       high : (es : Exprs) → count es ≡ part_count sign → max (heights es) 1 ≡ height (node sign es)
@@ -340,10 +359,10 @@ module _ (p : Names) (d d' n : ℕ) (sign : Sign) (s s₂ : State) (r : List ℕ
           let h = made sign es c in
           sym (height_simple (node sign es) (subst Simple (sym h.sign) simple) ∙ ap (λ fs. max (heights fs) 1) h.parts)
 
-      code_as : (u : SourceUnit) (a : ℕ) (es : Exprs) → count es ≡ part_count sign → CalleesOf p.callees u → T (formed u p.scope.args (node sign es)) → code_args u a es ++ (i ∷ []) ≡ code_expr u a (node sign es)
+      code_as : (u : SourceUnit) (a : ℕ) (es : Exprs) → count es ≡ part_count sign → CalleesOf (callees_of p) u → T (formed u p.scope.args (node sign es)) → code_args u a es ++ (i ∷ []) ≡ code_expr u a (node sign es)
       code_as u a es c callees t =
           let h = made sign es c in
-          sym (code_simple p.callees u p.scope.args a (node sign es) callees t (subst Simple (sym h.sign) simple) ∙ cc (own, h.sign, h.parts))
+          sym (code_simple (callees_of p) u p.scope.args a (node sign es) callees t (subst Simple (sym h.sign) simple) ∙ cc (own, h.sign, h.parts))
 
   pub sequence_arm : (o : Option ℕ) → sign ≡ Then → PartsSays p d' 2 sequence s₁ s₂ o → ExprSays p d s s₂ o
   sequence_arm o is says = arm 2 sequence o (ap part_count (sym is)) (record { few_code = omega arith; few_fits = omega arith; as_high = λ es c. rw is (high es (c ∙ ap part_count is)); as_code = λ u a es c callees t. rw is (code_as u a es (c ∙ ap part_count is)) }) says

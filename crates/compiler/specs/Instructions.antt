@@ -1,7 +1,8 @@
 -- The one list of instructions that a compiler makes of a unit, and what comes of it: code words, fits, and the code where it lies.
 use Rattle.std.specs.Prelude.{ℕ, ◌+◌, ◌%◌, ◌^◌, List, [], ◌∷◌, slice_index}
 use Rattle.rows.specs.Objects.{Fit}
-use Rattle.machine.specs.Instructions.{Opcode, Halt, Push, Arg, Load, Store, Operate, JumpIfZero, Jump, Call, SetFrame, Return, Out, Next, Pop, Reserve, Release, Count}
+use Rattle.machine.specs.Instructions.{Opcode}
+use Rattle.machine.specs.Opcodes.{opcode_number}
 
 -- an operand, before it is known where the object will lie
 pub data Operand : Type 0 where
@@ -14,26 +15,6 @@ pub data Operand : Type 0 where
 
 pub data Instruction : Type 0 where
   instr : Opcode → Operand → Instruction
-
--- an instruction's number, which is its place in the machine's list of opcodes
-abbrev pub opcode_number : Opcode → ℕ
-opcode_number Halt = 0
-opcode_number Push = 1
-opcode_number Arg = 2
-opcode_number Load = 3
-opcode_number Store = 4
-opcode_number Operate = 5
-opcode_number JumpIfZero = 6
-opcode_number Jump = 7
-opcode_number Call = 8
-opcode_number SetFrame = 9
-opcode_number Return = 10
-opcode_number Out = 11
-opcode_number Next = 12
-opcode_number Pop = 13
-opcode_number Reserve = 14
-opcode_number Release = 15
-opcode_number Count = 16
 
 -- the operand's word in the object, before it is fitted
 abbrev pub operand_word : Operand → ℕ

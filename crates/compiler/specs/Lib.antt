@@ -6,9 +6,11 @@ pub mod Simulation
 pub mod Correct
 pub mod Together
 pub mod Measuring
+pub mod Filling
 pub mod Writing
 pub mod WritingExpressions
 pub mod WritingProcedures
+pub mod Laying
 pub mod ObjectWriting
 pub mod UnitWriting
 pub mod Says

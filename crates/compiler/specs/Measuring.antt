@@ -1,5 +1,5 @@
 -- How much code expressions have and where that of procedures begins, measured on their rows.
-use Rattle.std.specs.Prelude.{◌≡◌, ℕ, ◌^◌, ◌<◌, Bool, true, false, cond, List, [], ◌∷◌, ◌++◌, map, length, Some, None, Option, ◌==◌, ◌≢◌, slice_index}
+use Rattle.std.specs.Prelude.{◌≡◌, ℕ, ◌^◌, ◌<◌, List, [], ◌∷◌, ◌++◌, map, length, Some, None, Option, ◌≢◌, slice_index}
 use Rattle.rows.specs.Units.{Expr, Proc}
 use Rattle.rows.specs.UnitRows.{row_expr}
 use Rattle.rows.specs.Signs.{row_sign, part_count}
@@ -8,6 +8,8 @@ use Rattle.rows.specs.UnitParts.{Procedures, FewArgs}
 use Rattle.rows.specs.declared.signs.Sign.{Sign}
 use Rattle.rows.specs.declared.signs.Sign.TheVariants.{Number, Argument, Word, Operation, If, Keep, Then, Out, Next, Call}
 use Rattle.compiler.specs.Code.{size, proc_at}
+use Rattle.compiler.specs.declared.measure.SignExtent.{SignExtent}
+use Rattle.compiler.specs.declared.measure.BodyExtent.{BodyExtent}
 
 -- the words of code that an expression with that sign adds to those of its parts: a branch has two instructions of its own, any other one
 abbrev pub own_size : Sign → ℕ
@@ -23,17 +25,19 @@ own_size Next = 2
 own_size (Call c n) = 2
 
 -- by a sign's number: how many words it takes, how many parts stand behind it, where a call says that itself, and its own code
-abbrev pub sign_words : List ℕ
-sign_words = 2 ∷ 2 ∷ 2 ∷ 2 ∷ 1 ∷ 2 ∷ 1 ∷ 1 ∷ 1 ∷ 3 ∷ []
-
-abbrev pub sign_parts : List ℕ
-sign_parts = 0 ∷ 0 ∷ 0 ∷ 2 ∷ 3 ∷ 1 ∷ 2 ∷ 1 ∷ 0 ∷ 0 ∷ []
-
-abbrev pub parts_told : List ℕ → ℕ → ℕ
-parts_told row n = cond (n == 9) (slice_index row 2) (slice_index sign_parts n)
-
-abbrev pub code_told : ℕ → ℕ
-code_told n = cond (n == 4) 4 2
+abbrev pub signs : List SignExtent
+signs =
+    record { words = 2; parts = 0; code = 2 } ∷
+    record { words = 2; parts = 0; code = 2 } ∷
+    record { words = 2; parts = 0; code = 2 } ∷
+    record { words = 2; parts = 2; code = 2 } ∷
+    record { words = 1; parts = 3; code = 4 } ∷
+    record { words = 2; parts = 1; code = 2 } ∷
+    record { words = 1; parts = 2; code = 2 } ∷
+    record { words = 1; parts = 1; code = 2 } ∷
+    record { words = 1; parts = 0; code = 2 } ∷
+    record { words = 3; parts = 0; code = 2 } ∷
+    []
 
 -- a sign of n words stands at the front of the row, with so many parts and so much code of its own
 pub record Extent (row : List ℕ) (n parts code : ℕ) : Type 0 where
@@ -43,9 +47,9 @@ pub record Extent (row : List ℕ) (n parts code : ℕ) : Type 0 where
   pub few : parts < 2 ^ 32
   pub own : code ≡ own_size sign
 
-abbrev pub ExtentSays : List ℕ → Option (ℕ × ℕ × ℕ) → Type 0
+abbrev pub ExtentSays : List ℕ → Option SignExtent → Type 0
 ExtentSays row None = (s : Sign) (rest : List ℕ) → row ≢ row_sign s ++ rest
-ExtentSays row (Some r) = Extent row r.0 r.1 r.2
+ExtentSays row (Some r) = Extent row r.words r.parts r.code
 
 -- an expression of n words stands at the front of the row, and its code has m
 pub record Sized (row : List ℕ) (n m : ℕ) : Type 0 where
@@ -54,9 +58,9 @@ pub record Sized (row : List ℕ) (n m : ℕ) : Type 0 where
   pub size : m ≡ size expr
 
 -- what measuring an expression gives
-abbrev pub SizeSays : List ℕ → Option (ℕ × ℕ) → Type 0
+abbrev pub SizeSays : List ℕ → Option BodyExtent → Type 0
 SizeSays row None = (e : Expr) (rest : List ℕ) → row ≢ row_expr e ++ rest
-SizeSays row (Some r) = Sized row r.0 r.1
+SizeSays row (Some r) = Sized row r.words r.code
 
 -- these are the places in the unit's code where its procedures begin
 abbrev pub Starts : List Proc → List ℕ → Type 0
@@ -70,6 +74,6 @@ pub record Placed (n : ℕ) (row arities starts : List ℕ) : Type 0 where
   pub start : Starts procs starts
 
 -- what placing procedures gives
-abbrev pub PlaceSays : ℕ → List ℕ → List ℕ → List ℕ → Bool → Type 0
-PlaceSays n row arities starts true = Placed n row arities starts
-PlaceSays n row arities starts false = (ps : List Proc) → Procedures FewArgs n row ps → ⊥
+abbrev pub PlaceSays : ℕ → List ℕ → List ℕ → List ℕ → Option Unit → Type 0
+PlaceSays n row arities starts (Some done) = Placed n row arities starts
+PlaceSays n row arities starts None = (ps : List Proc) → Procedures FewArgs n row ps → ⊥

@@ -1,22 +1,31 @@
 -- What writing an object's row promises.
 use Rattle.std.specs.Prelude.{◌≡◌, ℕ, ◌+◌, ◌*◌, T, List, [], ◌∷◌, ◌++◌, map, length, take, drop, slice_index}
+use Rattle.std.specs.List.{flat_map}
 use Rattle.rows.specs.Units.{SourceUnit}
 use Rattle.rows.specs.UnitRows.{all_below}
 use Rattle.rows.specs.UnitViews.{ViewOf}
 use Rattle.rows.specs.ObjectRows.{row_fits, row_object}
 use Rattle.rows.specs.declared.units.UnitView.{UnitView}
+use Rattle.compiler.specs.declared.layout.Layout.{Layout}
 use Rattle.compiler.specs.Instructions.{code_words, code_fits}
 use Rattle.compiler.specs.Code.{code_unit, object}
 use Rattle.compiler.specs.Measuring.{Starts}
 
+-- the words of a view's wants
+abbrev pub want_words : UnitView → List ℕ
+want_words v = flat_map (λ words. words) v.wants.now
+
 -- an object's words: six in front, and those of its wants, three for each offer, its code and its fits
 abbrev pub object_size : UnitView → List ℕ → List ℕ → ℕ
-object_size v code fits = 6 + (length v.wants.now + (3 * length v.offers.now + (length code + length fits)))
+object_size v code fits = 6 + (length (want_words v) + (3 * length v.offers.now + (length code + length fits)))
 
--- the offers' words: a procedure's number, how many arguments it takes and where it begins
+-- an offer's words: a procedure's number, how many arguments it takes and where it begins
+abbrev pub offer : List ℕ → List ℕ → ℕ → List ℕ
+offer arities starts p = p ∷ slice_index arities p ∷ slice_index starts p ∷ []
+
 abbrev pub offer_words : List ℕ → List ℕ → List ℕ → List ℕ
 offer_words arities starts [] = []
-offer_words arities starts (p ∷ ps) = p ∷ slice_index arities p ∷ slice_index starts p ∷ offer_words arities starts ps
+offer_words arities starts (p ∷ ps) = offer arities starts p ++ offer_words arities starts ps
 
 -- all that an object's row is made of is that of unit u
 pub record Ready (u : SourceUnit) (v : UnitView) (arities starts code fits : List ℕ) : Type 0 where
@@ -38,5 +47,5 @@ pub record ObjectWritten (u : SourceUnit) (old new : List ℕ) (n : ℕ) : Type 
   pub size : n ≡ length (row_object (object u))
 
 -- what is written is the object of whichever unit all is ready for
-abbrev pub WritesObject : UnitView → List ℕ → List ℕ → List ℕ → List ℕ → List ℕ → List ℕ → ℕ → Type 0
-WritesObject v arities starts code fits old new n = (u : SourceUnit) → Ready u v arities starts code fits → ObjectWritten u old new n
+abbrev pub WritesObject : Layout → List ℕ → List ℕ → List ℕ → List ℕ → ℕ → Type 0
+WritesObject l code fits old new n = (u : SourceUnit) → Ready u l.view l.arities.now l.starts.now code fits → ObjectWritten u old new n

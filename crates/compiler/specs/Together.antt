@@ -9,7 +9,7 @@ use Rattle.machine.specs.declared.Ran.{Ran}
 use Rattle.semantics.specs.Runs.{source}
 use Rattle.semantics.specs.Whole.{FitTogether, Behaviour, behaviour}
 use Rattle.semantics.specs.RunLinked.{Inputs, AsUnits, RunLinkedPost}
-use Rattle.semantics.specs.declared.linked.NotLinked.{NotLinked}
+use Rattle.semantics.specs.declared.linked.RunError.{RunError}
 use Rattle.compiler.specs.Code.{object}
 
 -- each unit is said by some row, so that it can be compiled
@@ -28,5 +28,5 @@ pub record FewEnough (us : List SourceUnit) : Type 0 where
 -- whatever `run_linked` answers on these objects is what the units do; b: how they end, and what they have put out
 abbrev pub CompiledRuns : Type 0
 CompiledRuns = (us : List SourceUnit) → EachSaid us → FitTogether us → FewEnough us →
-    (x : Inputs) (i o : List ℕ) (r : Result Ran NotLinked) → x.objects ≡ row_objects (objects us) → RunLinkedPost x i o r →
+    (x : Inputs) (i o : List ℕ) (r : Result Ran RunError) → x.objects ≡ row_objects (objects us) → RunLinkedPost x i o r →
     (b : Behaviour) × (behaviour (source us x.room x.tape x.calls) ≡ Some b) × AsUnits x (objects us) b o r

@@ -14,17 +14,24 @@ use Rattle.compiler.specs.Instructions.{Operand, plain, in_code, in_words, of_wa
 use Rattle.compiler.specs.Code.{code_expr, code_args}
 use Rattle.compiler.specs.Measuring.{Starts}
 use Rattle.compiler.specs.Writing.{State, Gone, Wrote}
-use Rattle.compiler.specs.declared.names.Callees.{Callees}
 use Rattle.compiler.specs.declared.names.Names.{Names}
+
+-- where calls go: the wants are counted first, then the unit's own procedures, which begin at these places of its code
+pub record Callees : Type 0 where
+  pub wants : ℕ
+  pub starts : List ℕ
+
+abbrev pub callees_of : Names → Callees
+callees_of p = record { wants = length p.scope.wants.now; starts = p.starts.now }
 
 -- where a call of callee c goes
 abbrev pub callee_operand : Callees → ℕ → Operand
-callee_operand p c = cond (nat_lt c p.wants) (of_want c) (in_code (slice_index p.starts.now (c - p.wants)))
+callee_operand p c = cond (nat_lt c p.wants) (of_want c) (in_code (slice_index p.starts (c - p.wants)))
 
 -- the callees are those of unit u
 pub record CalleesOf (p : Callees) (u : SourceUnit) : Type 0 where
   pub wants : p.wants ≡ length u.wants
-  pub starts : Starts u.procs p.starts.now
+  pub starts : Starts u.procs p.starts
 
 -- the instruction of a sign that stands behind the code of its parts
 abbrev pub own_instruction : Callees → Sign → Instruction
@@ -58,7 +65,7 @@ pub record WroteExpr (p : Names) (d : ℕ) (s s' : State) (h : ℕ) : Type 0 whe
   pub row : s.row ≡ row_expr expr ++ s'.row
   pub high : h ≡ height expr
   pub gone : Gone 0 0 s s'
-  pub writes : (u : SourceUnit) → CalleesOf p.callees u → T (formed u p.scope.args expr) → Wrote (code_expr u s.at expr) s s'
+  pub writes : (u : SourceUnit) → CalleesOf (callees_of p) u → T (formed u p.scope.args expr) → Wrote (code_expr u (length s.code) expr) s s'
 
 -- no right expression stands at the front of the row; nor do n of them
 abbrev pub NoExpr : Names → ℕ → List ℕ → Type 0
@@ -87,15 +94,11 @@ pub record WroteParts (p : Names) (d n : ℕ) (f : Shape) (s s' : State) (h : �
   pub row : s.row ≡ row_exprs parts ++ s'.row
   pub high : h ≡ f.high parts
   pub gone : Gone f.own_code f.own_fits s s'
-  pub writes : (u : SourceUnit) → CalleesOf p.callees u → T (formed_args u p.scope.args parts) → Wrote (f.code u s.at parts) s s'
+  pub writes : (u : SourceUnit) → CalleesOf (callees_of p) u → T (formed_args u p.scope.args parts) → Wrote (f.code u (length s.code) parts) s s'
 
 abbrev pub PartsSays : Names → ℕ → ℕ → Shape → State → State → Option ℕ → Type 0
 PartsSays p d n f s s' None = NoParts p d n s.row
 PartsSays p d n f s s' (Some h) = WroteParts p d n f s s' h
-
--- arguments, each of which waits on those before it
-abbrev pub arguments : Shape
-arguments = record { own_code = 0; own_fits = 0; high = heights; code = code_args }
 
 -- arguments and then an instruction
 abbrev pub then_one : Instruction → Shape

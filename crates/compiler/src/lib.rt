@@ -10,103 +10,72 @@ ghost use Rattle.compiler.specs.Simulation.{SimulatesExpressions};
 ghost use Rattle.compiler.specs.Worked.{WorkedObjects};
 
 mod assembly;
+mod filled;
 mod instruction;
+mod layout;
 mod measure;
 mod names;
 mod object;
 mod writer;
 mod writing;
 
+use filled::Filled;
+use layout::Layout;
 use measure::place_procedures;
-use names::Callees;
-use object::write_object;
-use rows::units::UnitView;
+use rows::units::{Refusal, UnitView};
 use writer::Writer;
-
-// What came of a unit.
-#[derive(Clone, Copy, PartialEq, Eq, Debug)]
-pub enum Compiled {
-    // an object of so many words
-    Object(usize),
-    // the row says no unit
-    NoUnit,
-    // fewer words for the object than 256 and 32 for each of the row's, or fewer to work with than 4,096 and 16 for each
-    Short,
-}
 
 // Whether too few words are lent for a row of so many words.
 fn too_short(row: usize, object: usize, work: usize) -> bool
     ensures { Decides result (TooShort row object work) }
 {
+    // in a wider type, in which the sums are as they are written: 32 words for each of so many might not fit
     let row = row as u128;
     (object as u128) < 256 + 32 * row || (work as u128) < 4096 + 16 * row
 }
 
-// Writes the object of the unit that a view shows, if its bodies are right; says how many words that were.
-fn write_unit<'x>(
-    view: &UnitView<'x>,
-    arities: &'x [u32],
-    starts: &'x [u32],
-    work: &mut [u32],
-    object: &mut [u32],
-) -> Option<usize>
-    requires { Compilable view.now arities.now starts.now (length work.old) (length object.old) }
-    ensures { UnitSays view.now arities.now starts.now object.old object.new result }
+// Writes the object of a unit that is laid out, if its bodies are right; says how many words that were.
+fn write_unit(layout: &Layout, work: &mut [u32], object: &mut [u32]) -> Option<usize>
+    requires { Compilable layout.now (length work.old) (length object.old) }
+    ensures { UnitSays layout.now object.old object.new result }
 {
-    let callees = Callees {
-        wants: view.want_count(),
-        starts,
-    };
-    let (code, fits) = work.split_at_mut(7 * view.procs.len());
+    // for each word of the row at most 7 of code, and what is left for fits
+    let (code, fits) = work.split_at_mut(7 * layout.view.procs.len());
     let mut writer = Writer {
-        row: view.procs,
-        code,
-        at: 0,
-        fits,
-        fitted: 0,
+        row: layout.view.procs,
+        code: Filled {
+            words: code,
+            len: 0,
+        },
+        fits: Filled {
+            words: fits,
+            len: 0,
+        },
     };
-    if !writer.procedures(view, arities, &callees) {
-        return None;
-    }
-    let Writer {
-        row: _,
-        code,
-        at,
-        fits,
-        fitted,
-    } = writer;
-    let size = write_object(
-        view,
-        arities,
-        starts,
-        &code[0..at],
-        &fits[0..fitted],
-        object,
-    );
-    Some(size)
+    writer.procedures(layout)?;
+    Some(layout.write_object(writer.code.written(), writer.fits.written(), object))
 }
 
-// Compiles the unit that a row says. The object stands first in its words, and the rest of them stays; what is refused leaves them all as
-// they were. The work words may hold anything afterwards.
-pub fn compile(unit: &[u32], object: &mut [u32], work: &mut [u32]) -> Compiled
+// Compiles the unit that a row says; says how many words its object has. The object stands first in its words, and the rest of them stays;
+// what is refused leaves them all as they were. It is short where fewer words are lent for the object than 256 and 32 for each of the row's,
+// or fewer to work with than 4,096 and 16 for each. The work words may hold anything afterwards.
+pub fn compile(unit: &[u32], object: &mut [u32], work: &mut [u32]) -> Result<usize, Refusal>
     ensures { CompiledPost unit.now object.old object.new (length work.old) result }
 {
     if too_short(unit.len(), object.len(), work.len()) {
-        return Compiled::Short;
+        return Err(Refusal::Short);
     }
-    let Some(view) = UnitView::open(unit) else {
-        return Compiled::NoUnit;
-    };
+    let view = UnitView::open(unit).ok_or(Refusal::NoUnit)?;
     let count = view.count as usize;
     let (arities, rest) = work.split_at_mut(count);
     let (starts, rest) = rest.split_at_mut(count);
-    if !place_procedures(view.procs, arities, starts) {
-        return Compiled::NoUnit;
-    }
-    match write_unit(&view, arities, starts, rest, object) {
-        Some(size) => Compiled::Object(size),
-        None => Compiled::NoUnit,
-    }
+    place_procedures(view.procs, arities, starts).ok_or(Refusal::NoUnit)?;
+    let layout = Layout {
+        view,
+        arities,
+        starts,
+    };
+    write_unit(&layout, rest, object).ok_or(Refusal::NoUnit)
 }
 
 // The compiler's objects for the two worked units are those made by hand, word by word.

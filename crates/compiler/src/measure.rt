@@ -1,61 +1,110 @@
 // Where the code of each procedure begins, before any is written: the size of an expression's code follows from its signs.
 ghost use Rattle.std.specs.Prelude.{◌≡◌, ◌^◌, ◌<◌, ◌≤◌, length};
-ghost use Rattle.compiler.specs.Measuring.{parts_told, code_told, ExtentSays, SizeSays, PlaceSays};
+ghost use Rattle.compiler.specs.Measuring.{ExtentSays, SizeSays, PlaceSays};
 
-use crate::names::word_at;
+use rows::operations::Operation;
 use rows::units::MOST_ARGS;
+use rows::words::word_at;
 
 // The words of code of a procedure besides those of its body: three instructions before it and two behind.
 const AROUND_BODY: usize = 10;
 
-// By a sign's number: how many words it takes, and how many parts stand behind it; a call says the latter itself. Read off a table and not
-// told by a match, since the signs of a row come in no order that a processor could guess.
-const SIGN_WORDS: [usize; 10] = [2, 2, 2, 2, 1, 2, 1, 1, 1, 3];
-
-const SIGN_PARTS: [usize; 10] = [0, 0, 0, 2, 3, 1, 2, 1, 0, 0];
-
-// How many parts stand behind the sign with that number at the front of a row.
-fn part_count(row: &[u32], number: usize) -> usize
-    requires { number < 10 }
-    ensures few { result < 2 ^ 32 }
-    ensures told { result ≡ parts_told row.now number }
-{
-    if number == 9 {
-        word_at(row, 2) as usize
-    } else {
-        SIGN_PARTS[number]
-    }
+// How many words a sign takes, how many parts stand behind it, and how many words of code it adds to those of its parts.
+#[derive(Clone, Copy, PartialEq, Eq, Debug)]
+struct SignExtent {
+    words: usize,
+    parts: usize,
+    code: usize,
 }
 
-// How many words of code an expression with that sign's number adds to those of its parts.
-fn own_size(number: usize) -> usize
-    ensures { result ≡ code_told number }
-{
-    if number == 4 { 4 } else { 2 }
+// The numbers of the two signs of which the table doesn't tell all: an operation has to be known, and a call says its parts.
+const OPERATION: usize = 3;
+
+const CALL: usize = 9;
+
+// By a sign's number. A table and no match, since the signs of a row come in no order that a processor could guess: with a match the
+// compiler took 1.6 times the time of a plain one in one pass, and with tables 1.35 to 1.4.
+const SIGNS: [SignExtent; 10] = [
+    SignExtent {
+        words: 2,
+        parts: 0,
+        code: 2,
+    },
+    SignExtent {
+        words: 2,
+        parts: 0,
+        code: 2,
+    },
+    SignExtent {
+        words: 2,
+        parts: 0,
+        code: 2,
+    },
+    SignExtent {
+        words: 2,
+        parts: 2,
+        code: 2,
+    },
+    SignExtent {
+        words: 1,
+        parts: 3,
+        code: 4,
+    },
+    SignExtent {
+        words: 2,
+        parts: 1,
+        code: 2,
+    },
+    SignExtent {
+        words: 1,
+        parts: 2,
+        code: 2,
+    },
+    SignExtent {
+        words: 1,
+        parts: 1,
+        code: 2,
+    },
+    SignExtent {
+        words: 1,
+        parts: 0,
+        code: 2,
+    },
+    SignExtent {
+        words: 3,
+        parts: 0,
+        code: 2,
+    },
+];
+
+// How many words of a row an expression takes, and how many words of code it has.
+#[derive(Clone, Copy, PartialEq, Eq, Debug)]
+struct BodyExtent {
+    words: usize,
+    code: usize,
 }
 
-// How many words the sign at the front of a row takes, how many parts stand behind it, and how many words of code it adds to those of its
-// parts; none where no sign stands there.
-fn sign_extent(row: &[u32]) -> Option<(usize, usize, usize)>
+// The extent of the sign at the front of a row; none where no sign stands there.
+fn sign_extent(row: &[u32]) -> Option<SignExtent>
     ensures { ExtentSays row.now result }
 {
     let number = word_at(row, 0) as usize;
-    if number >= 10 {
+    let mut sign = *SIGNS.get(number)?;
+    if row.len() < sign.words {
         return None;
     }
-    let words = SIGN_WORDS[number];
-    if row.len() < words {
+    if number == OPERATION && Operation::try_from(word_at(row, 1)).is_err() {
         return None;
     }
-    let second = word_at(row, 1);
-    if number == 3 && second > 5 {
-        return None;
+    if number == CALL {
+        sign.parts = word_at(row, 2) as usize;
     }
-    Some((words, part_count(row, number), own_size(number)))
+    Some(sign)
 }
 
-// How many words of the row the expression at its front takes, and how many words of code it has; none where no expression stands there.
-fn body_size(row: &[u32]) -> Option<(usize, usize)>
+// The extent of the expression at the front of a row; none where no expression stands there. A twin of rows' `skip`, which goes by
+// `Sign::read`: that is a match, which is slower here (see SIGNS), and it tells no code.
+fn body_extent(row: &[u32]) -> Option<BodyExtent>
     requires { length row.now < 2 ^ 32 }
     ensures { SizeSays row.now result }
 {
@@ -67,37 +116,40 @@ fn body_size(row: &[u32]) -> Option<(usize, usize)>
         if pending > left.len() {
             return None;
         }
-        let (taken, parts, code) = sign_extent(left)?;
-        left = &left[taken..];
-        pending = pending - 1 + parts;
-        size += code;
+        let sign = sign_extent(left)?;
+        left = &left[sign.words..];
+        pending = pending - 1 + sign.parts;
+        size += sign.code;
     }
-    Some((row.len() - left.len(), size))
+    Some(BodyExtent {
+        words: row.len() - left.len(),
+        code: size,
+    })
 }
 
-// Writes how many arguments each procedure of a row takes and where its code begins in their unit's; false where the row does not say
-// so many procedures with few enough arguments.
-pub fn place_procedures(procs: &[u32], arities: &mut [u32], starts: &mut [u32]) -> bool
+// Writes how many arguments each procedure of a row takes and where its code begins in their unit's; none where the row does not say
+// so many procedures with few enough arguments. A twin of rows' `read_arities`, which measures no code: with one for both, a reader of
+// units would have to lend words for places that it doesn't need. An Option of nothing for the reason that `Writer::procedure` has.
+pub fn place_procedures(procs: &[u32], arities: &mut [u32], starts: &mut [u32]) -> Option<()>
     requires short { length procs.now ≤ 65536 }
     requires each { length starts.old ≡ length arities.old }
     ensures { PlaceSays (length arities.old) procs.now arities.new starts.new result }
 {
     let mut left = procs;
     let mut at = 0;
-    for number in 0..arities.len() {
+    // not over both at once: of what a loop over `zip` has written there was no proof
+    for (number, arity) in arities.iter_mut().enumerate() {
         let [args, body @ ..] = left else {
-            return false;
+            return None;
         };
         if *args > MOST_ARGS {
-            return false;
+            return None;
         }
-        let Some((taken, size)) = body_size(body) else {
-            return false;
-        };
-        arities[number] = *args;
+        let extent = body_extent(body)?;
+        *arity = *args;
         starts[number] = at as u32;
-        at += size + AROUND_BODY;
-        left = &body[taken..];
+        at += extent.code + AROUND_BODY;
+        left = &body[extent.words..];
     }
-    left.is_empty()
+    left.is_empty().then_some(())
 }

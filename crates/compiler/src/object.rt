@@ -1,66 +1,48 @@
 // Writing an object's row: its parts in order, each behind the one before it.
 ghost use Rattle.std.specs.Prelude.{◌≡◌, ◌*◌, ◌^◌, ◌<◌, ◌≤◌, ◌++◌, length, drop};
+ghost use Rattle.compiler.specs.Filling.{filled, rest};
 ghost use Rattle.compiler.specs.ObjectWriting.{object_size, offer_words, WritesObject};
 
-use crate::names::word_at;
-use rows::units::UnitView;
+use crate::filled::Filled;
+use crate::layout::Layout;
 
-// How many words stand in front of an object's wants.
-const HEAD: usize = 6;
-
-// Writes words to the front of the object's.
-fn put(words: &[u32], object: &mut [u32])
-    requires { length words.now ≤ length object.old }
-    ensures { object.new ≡ words.now ++ drop (length words.now) object.old }
-{
-    let size = words.len();
-    let front = &mut object[0..size];
-    front.copy_from_slice(words);
-}
-
-// Writes three words for each offered procedure: its number, how many arguments it takes and where it begins.
-fn write_offers(offers: &[u32], arities: &[u32], starts: &[u32], object: &mut [u32])
-    requires { 3 * length offers.now ≤ length object.old }
-    ensures { object.new ≡ offer_words arities.now starts.now offers.now ++ drop (3 * length offers.now) object.old }
-{
-    let mut at = 0;
-    for offer in offers {
-        let number = *offer as usize;
-        let words = [*offer, word_at(arities, number), word_at(starts, number)];
-        put(&words, &mut object[at..]);
-        at += 3;
+impl Layout<'_> {
+    // Writes three words for each offered procedure.
+    fn write_offers(&self, row: &mut Filled)
+        requires { 3 * length self.now.view.offers.now ≤ length (rest row.old) }
+        ensures offers { filled row.new ≡ filled row.old ++ offer_words self.now.arities.now self.now.starts.now self.now.view.offers.now }
+        ensures rest { rest row.new ≡ drop (3 * length self.now.view.offers.now) (rest row.old) }
+        ensures same_words { row.new.words.ghost_name ≡ row.old.words.ghost_name }
+    {
+        for offer in self.view.offers {
+            row.put(&self.offer(*offer));
+        }
     }
-}
 
-// Writes the object of a unit whose procedures take so many arguments and begin at these places of its code; says how many words that were.
-pub fn write_object(
-    view: &UnitView,
-    arities: &[u32],
-    starts: &[u32],
-    code: &[u32],
-    fits: &[u32],
-    object: &mut [u32],
-) -> usize
-    requires space { object_size view.now code.now fits.now ≤ length object.old }
-    requires words { object_size view.now code.now fits.now < 2 ^ 32 }
-    ensures size { result ≡ object_size view.now code.now fits.now }
-    ensures writes { WritesObject view.now arities.now starts.now code.now fits.now object.old object.new result }
-{
-    let head = [
-        view.name,
-        view.words,
-        view.want_count() as u32,
-        view.offers.len() as u32,
-        code.len() as u32,
-        (fits.len() / 3) as u32,
-    ];
-    put(&head, object);
-    put(view.wants, &mut object[HEAD..]);
-    let offers_at = HEAD + view.wants.len();
-    write_offers(view.offers, arities, starts, &mut object[offers_at..]);
-    let code_at = offers_at + 3 * view.offers.len();
-    put(code, &mut object[code_at..]);
-    let fits_at = code_at + code.len();
-    put(fits, &mut object[fits_at..]);
-    fits_at + fits.len()
+    // Writes the unit's object with this code and these fits; says how many words that were.
+    pub fn write_object(&self, code: &[u32], fits: &[u32], object: &mut [u32]) -> usize
+        requires space { object_size self.now.view code.now fits.now ≤ length object.old }
+        requires words { object_size self.now.view code.now fits.now < 2 ^ 32 }
+        ensures size { result ≡ object_size self.now.view code.now fits.now }
+        ensures writes { WritesObject self.now code.now fits.now object.old object.new result }
+    {
+        let wants = self.view.wants.as_flattened();
+        let mut row = Filled {
+            words: object,
+            len: 0,
+        };
+        row.put(&[
+            self.view.name,
+            self.view.words,
+            self.view.want_count() as u32,
+            self.view.offers.len() as u32,
+            code.len() as u32,
+            (fits.len() / 3) as u32,
+        ]);
+        row.put(wants);
+        self.write_offers(&mut row);
+        row.put(code);
+        row.put(fits);
+        row.len()
+    }
 }

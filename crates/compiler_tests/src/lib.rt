@@ -3,7 +3,8 @@
 
 #[cfg(test)]
 mod tests {
-    use compiler::{Compiled, compile};
+    use compiler::compile;
+    use rows::units::Refusal;
     use std::alloc::{AllocError, Global};
     use std::process::Abort;
     use std::test::Fail;
@@ -11,8 +12,11 @@ mod tests {
     // What stands in the object's words before a call.
     const FILL: u32 = 0xa5a5_a5a5;
 
+    // How many words an object has, or why there is none.
+    type Answer = Result<usize, Refusal>;
+
     // The answer for a row, with as many words lent as it asks for, and the object's words afterwards.
-    fn compiled(heap: Global, row: &[u32]) -> Result<(Compiled, Vec<u32>), AllocError> {
+    fn compiled(heap: Global, row: &[u32]) -> Result<(Answer, Vec<u32>), AllocError> {
         let size = row.len().min(100_000);
         let mut object = vec![in heap; FILL; 256 + 32 * size]?;
         let mut work = vec![in heap; FILL; 4096 + 16 * size]?;
@@ -39,27 +43,19 @@ mod tests {
 
     // Whether all words are as they were before the call.
     fn untouched(object: &[u32]) -> bool {
-        for word in object {
-            if *word != FILL {
-                return false;
-            }
-        }
-        true
+        object.iter().all(|&word| word == FILL)
     }
 
     // The row is a unit's.
     fn accepts(heap: Global, row: &[u32]) -> Result<(), Fail> {
-        let (answer, _object) = compiled(heap, row)?;
-        match answer {
-            Compiled::Object(_) => Ok(()),
-            _ => Err(Fail::new("refused")),
-        }
+        compiled(heap, row)?.0?;
+        Ok(())
     }
 
     // The row is no unit's, and the object's words are as they were.
     fn refuses(rt: &impl Abort, heap: Global, row: &[u32]) -> Result<(), Fail> {
         let (answer, object) = compiled(heap, row)?;
-        assert_eq!(rt; answer, Compiled::NoUnit);
+        assert_eq!(rt; answer, Err(Refusal::NoUnit));
         assert!(rt; untouched(object.as_slice()));
         Ok(())
     }
@@ -83,10 +79,8 @@ mod tests {
     #[test]
     fn the_worked_unit(rt: HostRuntime) -> Result<(), Fail> {
         let (answer, object) = compiled(rt.alloc(), &ASKS)?;
-        assert_eq!(rt; answer, Compiled::Object(42));
-        for (word, wanted) in object.iter().zip(ASKS_OBJECT.iter()) {
-            assert_eq!(rt; *word, *wanted);
-        }
+        assert_eq!(rt; answer, Ok(42));
+        assert_eq!(rt; object.get(..42), Some(ASKS_OBJECT.as_slice()));
         assert_eq!(rt; object.get(42).copied(), Some(FILL));
         Ok(())
     }
@@ -105,11 +99,11 @@ mod tests {
         heap: Global,
         object: usize,
         work: usize,
-    ) -> Result<Compiled, Fail> {
+    ) -> Result<Answer, Fail> {
         let mut object = vec![in heap; FILL; object]?;
         let mut work = vec![in heap; FILL; work]?;
         let answer = compile(&ASKS, object.as_mut_slice(), work.as_mut_slice());
-        assert!(rt; answer != Compiled::Short || untouched(object.as_slice()));
+        assert!(rt; answer != Err(Refusal::Short) || untouched(object.as_slice()));
         Ok(answer)
     }
 
@@ -117,9 +111,9 @@ mod tests {
     #[test]
     fn too_few_words(rt: HostRuntime) -> Result<(), Fail> {
         let heap = rt.alloc();
-        assert_eq!(rt; answer_in(&rt, heap, 927, 4432)?, Compiled::Short);
-        assert_eq!(rt; answer_in(&rt, heap, 928, 4431)?, Compiled::Short);
-        assert_eq!(rt; answer_in(&rt, heap, 928, 4432)?, Compiled::Object(42));
+        assert_eq!(rt; answer_in(&rt, heap, 927, 4432)?, Err(Refusal::Short));
+        assert_eq!(rt; answer_in(&rt, heap, 928, 4431)?, Err(Refusal::Short));
+        assert_eq!(rt; answer_in(&rt, heap, 928, 4432)?, Ok(42));
         Ok(())
     }
 

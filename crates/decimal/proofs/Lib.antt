@@ -1,2 +1,0 @@
-mod Numbers
-mod Texts

@@ -1,8 +1,6 @@
 -- Numbers below 2^32 in decimal, separated by white space, read a byte at a time.
 use Rattle.std.specs.Prelude.{ℕ, ◌+◌, ◌-◌, ◌*◌, ◌^◌, Bool, cond, ◌&&◌, ◌||◌, List, [], ◌∷◌, Some, None, Option, ◌==◌, nat_le, nat_lt}
-use Rattle.std.specs.Option.{unwrap_or}
-use Rattle.decimal.specs.declared.Fed.{Fed}
-use Rattle.decimal.specs.declared.Fed.TheVariants.{More, Number, Bad}
+use Rattle.std.specs.Option.{unwrap_or, option_and_then}
 
 abbrev pub is_digit : ℕ → Bool
 is_digit b = nat_le 48 b && nat_le b 57
@@ -15,25 +13,17 @@ is_blank b = b == 32 || (b == 9 || (b == 10 || b == 13))
 abbrev pub longer : Option ℕ → ℕ → Option ℕ
 longer so_far b = cond (is_digit b && nat_lt (unwrap_or so_far 0 * 10 + (b - 48)) (2 ^ 32)) (Some (unwrap_or so_far 0 * 10 + (b - 48))) None
 
--- what came of a byte that is no white space
-abbrev pub grown : Option ℕ → Option ℕ × Fed
-grown None = (None, Bad)
-grown (Some v) = (Some v, More)
+-- the number under way after a byte that is no white space, and what came of the byte
+abbrev pub grown : Option ℕ → Option ℕ × Option (Option ℕ)
+grown None = (None, None)
+grown (Some v) = (Some v, Some None)
 
--- white space ends the number under way, if there is one
-abbrev pub ended : Option ℕ → Fed
-ended None = More
-ended (Some v) = Number v
-
--- the number under way and a byte: the number under way then, and what came of the byte
-abbrev pub fed : Option ℕ → ℕ → Option ℕ × Fed
-fed so_far b = cond (is_blank b) (None, ended so_far) (grown (longer so_far b))
-
-abbrev pub with_value : Option ℕ → (ℕ → Option ℕ) → Option ℕ
-with_value None k = None
-with_value (Some v) k = k v
+-- the number under way and a byte: the number under way then, and what came of the byte. That is the number that it ended,
+-- or nothing yet; None where it makes no number. White space ends the number under way, if there is one.
+abbrev pub fed : Option ℕ → ℕ → Option ℕ × Option (Option ℕ)
+fed so_far b = cond (is_blank b) (None, Some so_far) (grown (longer so_far b))
 
 -- the number that a text is, if it is nothing but one
 abbrev pub number_from : Option ℕ → List ℕ → Option ℕ
 number_from so_far [] = so_far
-number_from so_far (b ∷ bs) = with_value (longer so_far b) (λ v. number_from (Some v) bs)
+number_from so_far (b ∷ bs) = option_and_then (λ v. number_from (Some v) bs) (longer so_far b)

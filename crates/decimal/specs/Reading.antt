@@ -1,40 +1,36 @@
 -- The words that a text says, read byte by byte, and what the reader of a file promises.
 use Rattle.std.specs.Prelude.{◌≡◌, ℕ, ◌≤◌, List, [], ◌∷◌, ◌++◌, length, Some, None, Ok, Err, Option, Result}
-use Rattle.decimal.specs.declared.Fed.{Fed}
-use Rattle.decimal.specs.declared.Fed.TheVariants.{More, Number, Bad}
+use Rattle.std.specs.Option.{option_and_then}
 use Rattle.decimal.specs.declared.input.InputError.{InputError}
 use Rattle.decimal.specs.declared.input.InputError.TheVariants.{NoNumber, TooLong, Unread, NoMemory}
 use Rattle.decimal.specs.Feeding.{fed}
 
 -- words, and the number that came, if one did; nothing where what came is no number
-abbrev pub kept : List ℕ → Fed → Option (List ℕ)
-kept ws More = Some ws
-kept ws (Number v) = Some (ws ++ v ∷ [])
-kept ws Bad = None
-
-abbrev pub kept_then : {A : Type 0} → Option (List ℕ) → (List ℕ → Option A) → Option A
-kept_then None k = None
-kept_then (Some ws) k = k ws
+abbrev pub kept : List ℕ → Option (Option ℕ) → Option (List ℕ)
+kept ws (Some None) = Some ws
+kept ws (Some (Some v)) = Some (ws ++ v ∷ [])
+kept ws None = None
 
 -- words and the number under way, and a text: the words with the numbers that it ends, and the number under way then;
 -- nothing where something else stands in it
 abbrev pub reading : List ℕ → Option ℕ → List ℕ → Option (List ℕ × Option ℕ)
 reading ws so_far [] = Some (ws, so_far)
-reading ws so_far (b ∷ bs) = kept_then (kept ws (fed so_far b).1) (λ more. reading more (fed so_far b).0 bs)
+reading ws so_far (b ∷ bs) = option_and_then (λ more. reading more (fed so_far b).0 bs) (kept ws (fed so_far b).1)
 
--- ws' is ws and some words more
-pub record Grown (ws ws' : List ℕ) : Type 0 where
+-- ws' is ws and some words more, which are no more than there may be
+pub record Grown (limit : ℕ) (ws ws' : List ℕ) : Type 0 where
   pub more : List ℕ
   pub is : ws' ≡ ws ++ more
+  pub within : length ws ≤ limit → length ws' ≤ limit
 
 -- a number came
-abbrev pub Came : Fed → Type 0
-Came More = ⊥
-Came (Number v) = Unit {0}
-Came Bad = ⊥
+abbrev pub Came : Option (Option ℕ) → Type 0
+Came (Some None) = ⊥
+Came (Some (Some v)) = Unit {0}
+Came None = ⊥
 
 -- a number is kept, or it is said why not and the words are as they were
-abbrev pub KeepSays : ℕ → ℕ → Fed → List ℕ → List ℕ → Result (Unit {0}) InputError → Type 0
+abbrev pub KeepSays : ℕ → ℕ → Option (Option ℕ) → List ℕ → List ℕ → Result (Unit {0}) InputError → Type 0
 KeepSays line limit f ws ws' (Ok _) = kept ws f ≡ Some ws'
 KeepSays line limit f ws ws' (Err (NoNumber l n)) = (kept ws f ≡ None) × (l ≡ line) × (n ≡ length ws) × (ws' ≡ ws)
 KeepSays line limit f ws ws' (Err (TooLong n)) = Came f × (n ≡ limit) × (limit ≤ length ws) × (ws' ≡ ws)

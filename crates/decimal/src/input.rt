@@ -1,45 +1,40 @@
 // Words from a file or from standard input.
-ghost use Rattle.std.specs.Prelude.{◌≤◌, vec_len};
+ghost use Rattle.std.specs.Prelude.{◌≡◌, ◌≤◌, Some, vec_len};
+ghost use Rattle.decimal.specs.declared.input.InputError.TheVariants.{NoNumber};
 ghost use Rattle.decimal.specs.Reading.{KeepSays, TakeSays, Grown};
 
-use crate::{Decimals, Fed};
+use crate::Decimals;
+use std::alloc::AllocFailed;
+use std::io;
 use std::io::Read;
-use std::{fmt, io};
+use thiserror::Error;
 
 // Why words could not be read. A bad number is named by its line and by how many were read before it.
-#[derive(Drop)]
+#[derive(Debug, Drop, Error)]
 pub enum InputError {
+    #[error("line {line}: number {} is not a decimal number below 4294967296", .before.saturating_add(1))]
     NoNumber { line: u64, before: usize },
+    #[error("more than the {limit} numbers that there is room for")]
     TooLong { limit: usize },
-    Unread(io::Error),
+    #[error(transparent)]
+    Unread(#[from] io::Error),
+    #[error("out of memory")]
     NoMemory,
 }
 
-impl From<io::Error> for InputError {
-    fn from(e: io::Error) -> InputError {
-        InputError::Unread(e)
+impl From<AllocFailed<u32>> for InputError {
+    ghost use Rattle.std.specs.Prelude.{◌≡◌};
+    ghost use Rattle.decimal.specs.declared.input.InputError.TheVariants.{NoMemory};
+
+    ghost from_gives = { λ _ e. e ≡ NoMemory };
+
+    fn from(_word: AllocFailed<u32>) -> InputError {
+        InputError::NoMemory
     }
 }
 
-impl fmt::Display for InputError {
-    fn fmt<W: fmt::Write>(&self, f: &mut fmt::Formatter<W>) -> fmt::Result {
-        match self {
-            InputError::NoNumber { line, before } => {
-                let number = before.saturating_add(1);
-                write!(
-                    f,
-                    "line {line}: number {number} is not a decimal number below 4294967296"
-                )
-            }
-            InputError::TooLong { limit } => write!(
-                f,
-                "more than the {limit} numbers that there is room for"
-            ),
-            InputError::Unread(e) => write!(f, "{e}"),
-            InputError::NoMemory => write!(f, "out of memory"),
-        }
-    }
-}
+// How many bytes are read at a time.
+const CHUNK: usize = 4096;
 
 // Reads what is left of a source behind the words that are there, of which there may be `limit` in all.
 pub fn read_words<R: Read>(
@@ -47,42 +42,48 @@ pub fn read_words<R: Read>(
     words: &mut Vec<u32>,
     limit: usize,
 ) -> Result<(), InputError>
-    ensures grown { Grown words.old.items words.new.items }
+    ensures grown { Grown limit words.old.items words.new.items }
     ensures limit { vec_len words.old ≤ limit → vec_len words.new ≤ limit }
 {
     let mut reader = Reader {
         decimals: Decimals::new(),
         line: 1,
+        limit,
     };
-    let mut chunk = [0u8; 4096];
+    let mut chunk = [0u8; CHUNK];
+    // A count, since a loop that waits on input has to end.
     for _ in 0..u64::MAX {
         let n = source.read(&mut chunk)?;
         if n == 0 {
             break;
         }
-        reader.take(&chunk[0..n], words, limit)?;
+        reader.take(&chunk[..n], words)?;
     }
     let last = reader.decimals.end();
-    reader.keep(last, words, limit)
+    reader.keep(last, words)
 }
 
-// Where a text stands: its numbers, and the line.
+// Where a text stands: its numbers, and the line; and how many words there may be.
 #[derive(Clone, Copy)]
 struct Reader {
     decimals: Decimals,
     line: u64,
+    limit: usize,
 }
 
 impl Reader {
     // The next part of the text.
-    fn take(&mut self, text: &[u8], words: &mut Vec<u32>, limit: usize) -> Result<(), InputError>
-        ensures says { TakeSays limit self.old.decimals.so_far text.now words.old.items self.new.decimals.so_far words.new.items result }
-        ensures grown { Grown words.old.items words.new.items }
-        ensures limit { vec_len words.old ≤ limit → vec_len words.new ≤ limit }
+    fn take(&mut self, text: &[u8], words: &mut Vec<u32>) -> Result<(), InputError>
+        ensures says { TakeSays self.old.limit self.old.decimals.so_far text.now words.old.items self.new.decimals.so_far words.new.items result }
+        ensures grown { Grown self.old.limit words.old.items words.new.items }
+        ensures limit { self.new.limit ≡ self.old.limit }
     {
         for b in text {
-            let fed = self.decimals.feed(*b);
-            self.keep(fed, words, limit)?;
+            let fed = self
+                .decimals
+                .feed(*b)
+                .map_err(|_| self.no_number(words.len()))?;
+            self.keep(fed, words)?;
             if *b == b'\n' {
                 self.line = self.line.saturating_add(1);
             }
@@ -90,26 +91,27 @@ impl Reader {
         Ok(())
     }
 
-    // Keeps a number, if one came.
-    fn keep(&self, fed: Fed, words: &mut Vec<u32>, limit: usize) -> Result<(), InputError>
-        ensures says { KeepSays self.now.line limit fed words.old.items words.new.items result }
-        ensures limit { vec_len words.old ≤ limit → vec_len words.new ≤ limit }
+    // What is said of a bad number behind so many words.
+    fn no_number(&self, before: usize) -> InputError
+        ensures { result ≡ NoNumber self.now.line before }
     {
-        match fed {
-            Fed::More => Ok(()),
-            Fed::Bad => Err(InputError::NoNumber {
-                line: self.line,
-                before: words.len(),
-            }),
-            Fed::Number(v) => {
-                if words.len() >= limit {
-                    return Err(InputError::TooLong { limit });
-                }
-                match words.push(v) {
-                    Ok(()) => Ok(()),
-                    Err(_) => Err(InputError::NoMemory),
-                }
-            }
+        InputError::NoNumber {
+            line: self.line,
+            before,
         }
+    }
+
+    // Keeps a number, if one came.
+    fn keep(&self, fed: Option<u32>, words: &mut Vec<u32>) -> Result<(), InputError>
+        ensures says { KeepSays self.now.line self.now.limit (Some fed) words.old.items words.new.items result }
+        ensures grown { Grown self.now.limit words.old.items words.new.items }
+    {
+        let Some(number) = fed else {
+            return Ok(());
+        };
+        if words.len() >= self.limit {
+            return Err(InputError::TooLong { limit: self.limit });
+        }
+        Ok(words.push(number)?)
     }
 }

@@ -4,11 +4,12 @@ use std::io::Write;
 
 // Writes the words on one line, with single spaces between them.
 pub fn write_line<W: Write>(to: &mut W, words: &[u32]) -> io::Result<()> {
-    for (i, x) in words.iter().enumerate() {
-        if i > 0 {
-            write!(to, " ")?;
-        }
-        write!(to, "{x}")?;
+    let mut words = words.iter();
+    if let Some(first) = words.next() {
+        write!(to, "{first}")?;
+    }
+    for word in words {
+        write!(to, " {word}")?;
     }
     writeln!(to)
 }

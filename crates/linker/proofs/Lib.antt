@@ -1,8 +1,10 @@
+pub mod Refusals
 pub mod SoFar
 pub mod Named
 pub mod Settling
 pub mod Meeting
 pub mod Places
+pub mod Keeping
 pub mod Lent
 pub mod Written
 pub mod LaidObjects

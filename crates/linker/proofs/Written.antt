@@ -1,12 +1,13 @@
 -- The loop that writes objects' codes: what is written so far, and the objects that are left.
-use Rattle.std.proofs.Common.{◌≡◌, ℕ, ◌+◌, ◌-◌, ◌<◌, ◌≤◌, List, [], ◌∷◌, ◌++◌, length, get_or, take, drop, set, sym, refl, ap, ◌∙◌, arith, length-set}
+use Rattle.std.proofs.Common.{◌≡◌, ℕ, ◌+◌, ◌-◌, ◌<◌, ◌≤◌, List, [], ◌∷◌, ◌++◌, length, get_or, take, drop, set, subst, sym, refl, ap, ◌∙◌, arith, length-set}
 use borrow.Rule.Slice.PartMut.{put_mid}
-use Rattle.std.proofs.lemmas.List.{append-nil, append_assoc, at_drop_more, at_drop_all, take_rest, drop-drop, length-drop, take-append-drop}
+use Rattle.std.proofs.lemmas.List.{append-nil, append_assoc, at_drop_all, drop-drop, take-append-drop}
 use Rattle.rows.specs.Objects.{Fit}
 use Rattle.linker.specs.Linking.{Laid, fitted, fit_all}
 use Rattle.linker.specs.Tables.{laid_of, laid_in, objects_of, all_code}
 use Rattle.linker.specs.Fitting.{places_of, fitted_code, fitted_codes}
 use Rattle.linker.specs.declared.laying.Laid.{Laid as LaidView}
+use Rattle.linker.proofs.Meeting.{drop_here}
 use Rattle.linker.proofs.Lent.{take_behind, drop_behind}
 
 pub length-fit_all : (l : Laid) (ps : List ℕ) (fs : List Fit) (code : List ℕ) → length (fit_all l ps fs code) ≡ length code
@@ -20,41 +21,44 @@ pub record WrittenSoFar (t : List LaidView) (w₀ w : List ℕ) (i at : ℕ) : T
   pub behind : drop at w ≡ drop at w₀
 
 -- one object more: `part` is what lies behind `at` afterwards
-module _ (t : List LaidView) (w₀ w part : List ℕ) (i at : ℕ) (d : LaidView) (inside : i < length t) (enough : all_code (objects_of t) ≤ length w) (so_far : WrittenSoFar t w₀ w i at) where
+module _ (t : List LaidView) (w₀ w part : List ℕ) (i at : ℕ) (x : LaidView) (inside : i < length t) (is_here : x ≡ get_or t i x) (enough : all_code (objects_of t) ≤ length w) (so_far : WrittenSoFar t w₀ w i at) where
   abbrev own : Laid
-  own = laid_of (get_or t i d)
+  own = laid_of x
 
   abbrev n : ℕ
   n = length own.object.code
 
   code_here : all_code (objects_of (drop i t)) ≡ n + all_code (objects_of (drop (i + 1) t))
-  code_here = at_drop_more (λ ls. all_code (objects_of ls)) t i d inside
+  code_here = drop_here (λ ls. all_code (objects_of ls)) t i x inside is_here
 
-  pub space_here : n ≤ length (take (length w - at) (drop at w))
-  space_here = rw (take_rest w at) (simp length-drop (omega (arith, code_here)))
+  pub space_here : at + n ≤ length w
+  space_here = omega (arith, code_here)
 
-  module _ (is : part ≡ fitted_code (laid_in t) own ++ drop n (take (length w - at) (drop at w))) where
+  module _ (is : part ≡ fitted_code (laid_in t) own) where
     abbrev f : List ℕ
     f = fitted_code (laid_in t) own
 
     abbrev after : List ℕ
-    after = put_mid at (length w - at) w part
+    after = put_mid at n w part
 
     long : length f ≡ n
     long = length-fit_all own (places_of (laid_in t) own.object.wants) own.object.fits own.object.code
 
-    room : at + n ≤ length w
-    room = omega (arith, code_here)
-
     abbrev rest : List ℕ
     rest = fitted_codes (laid_in t) (laid_in (drop (i + 1) t))
 
-    pub written_more : WrittenSoFar t w₀ after (i + 1) (at + n)
-    written_more = record {
+    written_now : WrittenSoFar t w₀ after (i + 1) (at + n)
+    written_now = record {
       space = omega (arith, code_here);
-      front = ap (λ s. s ++ rest) (take_behind w part f at n long room is) ∙ (append_assoc (take at w) f rest ∙ (ap (λ s. take at w ++ s) (sym (at_drop_more (λ ls. fitted_codes (laid_in t) (laid_in ls)) t i d inside)) ∙ so_far.front));
-      behind = drop_behind w part f at n long room is ∙ (ap (drop n) so_far.behind ∙ drop-drop n at w₀);
+      front = ap (λ s. s ++ rest) (take_behind w part f at n long space_here is) ∙ (append_assoc (take at w) f rest ∙ (ap (λ s. take at w ++ s) (sym (drop_here (λ ls. fitted_codes (laid_in t) (laid_in ls)) t i x inside is_here)) ∙ so_far.front));
+      behind = drop_behind w part f at n long space_here is ∙ (ap (drop n) so_far.behind ∙ drop-drop n at w₀);
     }
+
+    pub written_more : WrittenSoFar t w₀ (put_mid at (at + n - at) w part) (i + 1) (at + n)
+    written_more = subst (λ k. WrittenSoFar t w₀ (put_mid at k w part) (i + 1) (at + n)) count written_now
+      where
+        count : n ≡ at + n - at
+        count = omega arith
 
 -- all codes are written
 pub written_all : (t : List LaidView) (w₀ w : List ℕ) (i at : ℕ) → length t ≤ i → WrittenSoFar t w₀ w i at → w ≡ fitted_codes (laid_in t) (laid_in t) ++ drop (all_code (objects_of t)) w₀

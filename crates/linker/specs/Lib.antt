@@ -2,6 +2,11 @@
 pub mod Linking
 pub mod Says
 pub mod Names
+pub mod Settled
 pub mod Tables
-pub mod Finding
+pub mod Laying
+pub mod Directories
 pub mod Fitting
+pub mod Fitters
+pub mod Writers
+pub mod Texts

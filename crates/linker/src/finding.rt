@@ -1,37 +1,37 @@
 // Finding what objects want: by name, then by procedure and number of arguments.
-ghost use Rattle.std.specs.Prelude.{◌≡◌, is_some};
+ghost use Rattle.std.specs.Prelude.{◌≡◌, [], ◌∷◌, ◌++◌, take};
 ghost use Rattle.rows.specs.ObjectViews.{want_of, wants_in, offers_in};
-ghost use Rattle.linker.specs.Linking.{offered as offered_place, place as place_of, places, entry as entry_of};
-ghost use Rattle.linker.specs.Tables.{laid_of, laid_by};
-ghost use Rattle.linker.specs.Finding.{begin_of, Settled, Ready};
-ghost use Rattle.linker.specs.Fitting.{MeetsSays};
+ghost use Rattle.linker.specs.Linking.{offered as offered_place, place as place_of, entry as entry_of};
+ghost use Rattle.linker.specs.Settled.{begin_of};
+ghost use Rattle.linker.specs.Tables.{laid_of};
+ghost use Rattle.linker.specs.Directories.{laid_by};
+ghost use Rattle.linker.specs.Fitting.{FindSays, FindAllSays};
 
+use crate::NotLinked;
 use crate::directory::Directory;
 use crate::laying::Laid;
+use arrayvec::ArrayVec;
 use rows::objects::{Offer, Want};
 
-// Where the first offer of the procedure with so many arguments begins.
+// Where the first offer of the procedure with so many arguments begins. By a rule of the project this search is a loop that yields the place by `break`.
 fn offered(offers: &[[u32; 3]], proc: u32, args: u32) -> Option<u32>
     ensures { result ≡ offered_place proc args (offers_in offers.now) }
 {
-    let mut left = offers;
-    let at = loop {
-        let Some((words, rest)) = left.split_first() else {
+    let mut left = offers.iter();
+    loop {
+        let Some(words) = left.next() else {
             break None;
         };
-        let offer = Offer::of(words);
+        let offer = Offer::from(*words);
         if offer.proc == proc && offer.args == args {
             break Some(offer.at);
         }
-        left = rest;
-    };
-    at
+    }
 }
 
 impl Laid<'_> {
     // Where the procedure with so many arguments begins in the image, if the object offers it.
     fn begin_of(&self, proc: u32, args: u32) -> Option<u32>
-        requires { Settled (laid_of self.now) }
         ensures { result ≡ begin_of (laid_of self.now) proc args }
     {
         let at = offered(self.object.offers, proc, args)?;
@@ -39,10 +39,16 @@ impl Laid<'_> {
     }
 }
 
+// Puts a place behind the others, if there is room for it.
+fn keep<const ROOM: usize>(places: &mut ArrayVec<u32, ROOM>, place: u32)
+    ensures { places.new.items ≡ take ROOM (places.old.items ++ place ∷ []) }
+{
+    let _ = places.try_push(place);
+}
+
 impl Directory<'_, '_> {
     // The place of a want: where the procedure begins in the object with that name.
     pub fn place(&self, want: Want) -> Option<u32>
-        requires { Ready self.now.laid.now }
         ensures { result ≡ place_of (laid_by self.now) (want_of want) }
     {
         let unit = self.named(want.unit)?;
@@ -51,40 +57,38 @@ impl Directory<'_, '_> {
 
     // The place of the first object's procedure 0 without arguments.
     pub fn entry(&self) -> Option<u32>
-        requires { Ready self.now.laid.now }
         ensures { result ≡ entry_of (laid_by self.now) }
     {
-        match self.laid {
-            [first, ..] => first.begin_of(0, 0),
-            [] => None,
-        }
+        let first = self.laid.first()?;
+        first.begin_of(0, 0)
     }
 
-    // Whether each of the wants is met.
-    fn meets(&self, wants: &[[u32; 3]]) -> bool
-        requires { Ready self.now.laid.now }
-        ensures { result ≡ is_some (places (laid_by self.now) (wants_in wants.now)) }
+    // Finds the places of the wants, and puts them behind those found before, as many as there is room for. Missing where a want isn't met.
+    pub fn find<const ROOM: usize>(
+        &self,
+        wants: &[[u32; 3]],
+        places: &mut ArrayVec<u32, ROOM>,
+    ) -> Result<(), NotLinked>
+        ensures { FindSays (laid_by self.now) (wants_in wants.now) ROOM places.old.items places.new.items result }
     {
-        let mut left = wants;
-        while let Some((words, rest)) = left.split_first() {
-            if self.place(Want::of(words)).is_none() {
-                return false;
-            }
-            left = rest;
+        for words in wants {
+            let place = self.place(Want::from(*words)).ok_or(NotLinked::Missing)?;
+            keep(places, place);
         }
-        true
+        Ok(())
     }
 
-    // Whether each want of each object is met.
-    pub fn meets_all(&self) -> bool
-        requires { Ready self.now.laid.now }
-        ensures { MeetsSays (laid_by self.now) result }
+    // Finds the places of all objects' wants, one object's behind the other's, as many as there is room for. Missing where a want isn't met.
+    pub fn find_all<const ROOM: usize>(
+        &self,
+        places: &mut ArrayVec<u32, ROOM>,
+    ) -> Result<(), NotLinked>
+        requires { places.old.items ≡ [] }
+        ensures { FindAllSays (laid_by self.now) ROOM places.new.items result }
     {
         for one in self.laid {
-            if !self.meets(one.object.wants) {
-                return false;
-            }
+            self.find(one.object.wants, places)?;
         }
-        true
+        Ok(())
     }
 }

@@ -1,85 +1,117 @@
-// Fitting objects' code to where it lies.
-ghost use Rattle.std.specs.Prelude.{◌≡◌, ℕ, ◌≤◌, length, take, slice_index, slice_set};
-ghost use Rattle.rows.specs.ObjectViews.{object_of, fit_of};
-ghost use Rattle.linker.specs.Linking.{fitted as fitted_word, fit_all};
-ghost use Rattle.linker.specs.Tables.{laid_of, laid_by};
-ghost use Rattle.linker.specs.Finding.{Ready};
-ghost use Rattle.linker.specs.Fitting.{Met, places_of, Known};
+// Fitting an object's code to where it lies.
+ghost use Rattle.linker.specs.Tables.{laid_of};
+ghost use Rattle.linker.specs.Directories.{laid_by};
+ghost use Rattle.linker.specs.Fitting.{Met, Known};
 
 use crate::directory::Directory;
 use crate::laying::Laid;
-use rows::objects::{Fit, Kind, ObjectView};
+use arrayvec::ArrayVec;
+use rows::objects::{Fit, Kind};
 
-// The place of the object's want with that number; 0 where there is no such want.
-fn wanted(directory: &Directory, object: &ObjectView, number: usize) -> u32
-    requires ready { Ready directory.now.laid.now }
-    requires met { Met (laid_by directory.now) (object_of object.now).wants }
-    ensures { result ≡ slice_index (places_of (laid_by directory.now) (object_of object.now).wants) number }
-{
-    match object.want(number) {
-        Some(want) => directory.place(want).unwrap_or(0),
-        None => 0,
-    }
+// How many places of an object's wants are looked for again before its code is fitted, where not all were kept; those of further wants are looked
+// for at each fit.
+const FEW: usize = 4096;
+
+// What an object's code is fitted by: all objects, the object itself, and the places of the first of its wants.
+#[derive(Debug, Drop)]
+pub struct Fitter<'f, 't, 'a> {
+    pub directory: &'f Directory<'t, 'a>,
+    pub own: &'f Laid<'a>,
+    pub known: &'f [u32],
+    // all wants of the object are met
+    ghost met: { Met (laid_by directory.now) (laid_of own.now).object.wants },
+    // the places are those of its first wants
+    ghost right: { Known (laid_by directory.now) (laid_of own.now).object.wants known.now },
 }
 
-// Finds the places of the object's first wants, as many as there are words for them, and says how many.
-pub fn find_places(directory: &Directory, object: &ObjectView, places: &mut [u32]) -> usize
-    requires ready { Ready directory.now.laid.now }
-    requires met { Met (laid_by directory.now) (object_of object.now).wants }
-    ensures few { result ≤ length places.new }
-    ensures finds { Known (laid_by directory.now) (object_of object.now).wants (take result places.new) }
-{
-    let count = places.len().min(object.wants.len());
-    for number in 0..count {
-        places[number] = wanted(directory, object, number);
-    }
-    count
-}
+impl Fitter<'_, '_, '_> {
+    ghost use Rattle.std.specs.Prelude.{◌≡◌, length, slice_index, slice_set};
+    ghost use Rattle.linker.specs.Linking.{fitted as fitted_word, fit_all};
+    ghost use Rattle.linker.specs.Fitting.{fitted_code};
+    ghost use Rattle.linker.specs.Fitters.{all_of, own_of, wanted_of};
 
-// What stands at a fit's place afterwards, where `old` stood. The places of the object's first wants are known.
-fn fitted(directory: &Directory, own: &Laid, known: &[u32], fit: Fit, old: u32) -> u32
-    requires ready { Ready directory.now.laid.now }
-    requires met { Met (laid_by directory.now) (laid_of own.now).object.wants }
-    requires known { Known (laid_by directory.now) (laid_of own.now).object.wants known.now }
-    ensures { result ≡ fitted_word (laid_of own.now) (places_of (laid_by directory.now) (laid_of own.now).object.wants) old fit.kind fit.want }
-{
-    match fit.what() {
-        Kind::Code => old.wrapping_add(own.code_at),
-        Kind::Words => old.wrapping_add(own.words_at),
-        Kind::Want(number) => {
-            let number = number as usize;
-            if number < known.len() {
-                known[number]
-            } else {
-                wanted(directory, &own.object, number)
-            }
+    // The place of the object's want with that number, looked for anew; 0 where there is no such want.
+    fn sought(&self, number: usize) -> u32
+        ensures { result ≡ slice_index (wanted_of self.now) number }
+    {
+        // by a match: what a closure gives that calls `place` is not known to the proof
+        match self.own.object.want(number) {
+            Some(want) => self.directory.place(want).unwrap_or(0),
+            None => 0,
         }
     }
-}
 
-// Does one fit; of a place outside the code nothing becomes.
-fn fit_word(directory: &Directory, own: &Laid, known: &[u32], fit: Fit, code: &mut [u32])
-    requires ready { Ready directory.now.laid.now }
-    requires met { Met (laid_by directory.now) (laid_of own.now).object.wants }
-    requires known { Known (laid_by directory.now) (laid_of own.now).object.wants known.now }
-    ensures { code.new ≡ slice_set code.old fit.at (fitted_word (laid_of own.now) (places_of (laid_by directory.now) (laid_of own.now).object.wants) (slice_index code.old fit.at) fit.kind fit.want) }
-{
-    let at = fit.at as usize;
-    if at < code.len() {
-        code[at] = fitted(directory, own, known, fit, code[at]);
+    // The place of the object's want with that number; 0 where there is no such want.
+    fn wanted(&self, number: usize) -> u32
+        ensures { result ≡ slice_index (wanted_of self.now) number }
+    {
+        // by a match: what a closure gives that calls `sought` is not known to the proof
+        match self.known.get(number) {
+            Some(place) => *place,
+            None => self.sought(number),
+        }
     }
-}
 
-// Fits an object's code, one fit after the other.
-pub fn fit_code(directory: &Directory, own: &Laid, known: &[u32], code: &mut [u32])
-    requires ready { Ready directory.now.laid.now }
-    requires met { Met (laid_by directory.now) (laid_of own.now).object.wants }
-    requires known { Known (laid_by directory.now) (laid_of own.now).object.wants known.now }
-    ensures { code.new ≡ fit_all (laid_of own.now) (places_of (laid_by directory.now) (laid_of own.now).object.wants) (laid_of own.now).object.fits code.old }
-{
-    let mut left = own.object.fits;
-    while let Some((words, rest)) = left.split_first() {
-        fit_word(directory, own, known, Fit::of(words), code);
-        left = rest;
+    // What stands at a fit's place afterwards, where `old` stood.
+    fn fitted(&self, fit: Fit, old: u32) -> u32
+        ensures { result ≡ fitted_word (own_of self.now) (wanted_of self.now) old fit.kind fit.want }
+    {
+        match fit.what() {
+            Kind::Code => old.wrapping_add(self.own.code_at),
+            Kind::Words => old.wrapping_add(self.own.words_at),
+            Kind::Want(number) => self.wanted(number as usize),
+        }
+    }
+
+    // Does one fit; of a place outside the code nothing becomes.
+    fn fit_word(&self, fit: Fit, code: &mut [u32])
+        ensures { code.new ≡ slice_set code.old fit.at (fitted_word (own_of self.now) (wanted_of self.now) (slice_index code.old fit.at) fit.kind fit.want) }
+    {
+        let at = fit.at as usize;
+        // by an index: of a slice lent by get_mut nothing is known after the write
+        if at < code.len() {
+            code[at] = self.fitted(fit, code[at]);
+        }
+    }
+
+    // Fits the code, one fit after the other.
+    fn fit_code(&self, code: &mut [u32])
+        ensures { code.new ≡ fit_all (own_of self.now) (wanted_of self.now) (own_of self.now).object.fits code.old }
+    {
+        let own = self.own;
+        for words in own.object.fits {
+            self.fit_word(Fit::from(*words), code);
+        }
+    }
+
+    // Fits the code where not all places were kept: those of the first few wants are looked for again before it.
+    fn fit_anew(&self, code: &mut [u32])
+        ensures { code.new ≡ fit_all (own_of self.now) (wanted_of self.now) (own_of self.now).object.fits code.old }
+    {
+        let mut places: ArrayVec<u32, FEW> = ArrayVec::new();
+        let own = self.own;
+        let Ok(()) = self.directory.find(own.object.wants, &mut places) else {
+            unreachable!()
+        };
+        let fitter = Fitter {
+            directory: self.directory,
+            own,
+            known: &places,
+        };
+        fitter.fit_code(code);
+    }
+
+    // Writes the object's code, fitted, to as many words.
+    pub fn write(&self, code: &mut [u32])
+        requires { length code.old ≡ length (own_of self.now).object.code }
+        ensures { code.new ≡ fitted_code (all_of self.now) (own_of self.now) }
+    {
+        let own = self.own;
+        code.copy_from_slice(own.object.code);
+        if self.known.len() < own.object.wants.len() {
+            self.fit_anew(code);
+        } else {
+            self.fit_code(code);
+        }
     }
 }

@@ -1,7 +1,9 @@
 // Linking objects: laying them one behind the other, finding what each wants, fitting their code, and writing the image.
 #![tactic(auto)]
 
+ghost use Rattle.std.specs.Prelude.{◌≡◌, Some};
 ghost use Rattle.linker.specs.Says.{LinkedPost};
+ghost use Rattle.linker.specs.Texts.{refusal_text};
 
 mod directory;
 mod finding;
@@ -10,17 +12,23 @@ mod laying;
 mod names;
 mod writing;
 
-use directory::{Directory, names_of};
-use laying::{Laid, lay};
-use names::twice;
-use rows::objects::MOST_OBJECTS;
+use directory::Directory;
+use laying::{HEAD, Layout};
+use rows::objects::NoObjects;
+use std::error::Error;
+use std::fmt;
 use writing::join;
 
-// What came of objects.
+// An image that objects were linked to: how many words it has, and how many words the units have.
 #[derive(Clone, Copy, PartialEq, Eq, Debug)]
-pub enum Linked {
-    // an image of so many words; and so many words have the units
-    Image(usize, usize),
+pub struct Image {
+    pub size: usize,
+    pub words: usize,
+}
+
+// Why objects are not linked.
+#[derive(Clone, Copy, PartialEq, Eq, Debug)]
+pub enum NotLinked {
     // the row says no list of objects
     NoObjects,
     // two objects have one name
@@ -31,25 +39,44 @@ pub enum Linked {
     NoSpace,
 }
 
+// By hand, since a derived text has no contract.
+impl fmt::Display for NotLinked {
+    ghost output = { λ e. Some (refusal_text e) };
+
+    fn fmt<W: fmt::Write>(&self, f: &mut fmt::Formatter<W>) -> fmt::Result {
+        f.write_str(match self {
+            NotLinked::NoObjects => "no objects",
+            NotLinked::Twice => "twice",
+            NotLinked::Missing => "missing",
+            NotLinked::NoSpace => "no space",
+        })
+    }
+}
+
+impl Error for NotLinked {}
+
+impl From<NoObjects> for NotLinked {
+    ghost use Rattle.linker.specs.declared.NotLinked.{NotLinked};
+
+    ghost from_gives = { λ _ e. e ≡ NotLinked.NoObjects };
+
+    fn from(_refused: NoObjects) -> Self {
+        Self::NoObjects
+    }
+}
+
 // Links the objects of a row. The image stands first in its words, and the rest of them stays; what is refused leaves them all as they were.
-pub fn link(objects: &[u32], image: &mut [u32]) -> Linked
+pub fn link(objects: &[u32], image: &mut [u32]) -> Result<Image, NotLinked>
     ensures { LinkedPost objects.now image.old image.new result }
 {
-    if image.len() < 4 + objects.len() {
-        return Linked::NoSpace;
+    if image.len() < HEAD as usize + objects.len() {
+        return Err(NotLinked::NoSpace);
     }
-    let mut table = [Laid::NONE; MOST_OBJECTS];
-    let Ok(extent) = lay(objects, &mut table) else {
-        return Linked::NoObjects;
-    };
-    let count = extent.objects;
-    let laid = &table[0..count];
-    let names = names_of(laid);
-    if twice(&names[0..count]) {
-        return Linked::Twice;
-    }
-    if !join(&Directory::new(laid), image) {
-        return Linked::Missing;
-    }
-    Linked::Image(extent.image, extent.words)
+    let layout = Layout::of(objects)?;
+    let directory = Directory::new(&layout.laid)?;
+    join(&directory, image)?;
+    Ok(Image {
+        size: layout.image,
+        words: layout.words,
+    })
 }

@@ -1,72 +1,87 @@
 // Writing the image.
 ghost use Rattle.std.specs.Prelude.{◌≡◌, ◌+◌, ◌≤◌, true, ◌∷◌, ◌++◌, length, drop, is_some};
 ghost use Rattle.linker.specs.Linking.{codes};
-ghost use Rattle.linker.specs.Tables.{laid_of, laid_by, objects_of, all_code};
-ghost use Rattle.linker.specs.Finding.{Ready};
-ghost use Rattle.linker.specs.Fitting.{Met, fitted_code, fitted_codes, JoinSays};
+ghost use Rattle.linker.specs.Tables.{objects_of, all_code};
+ghost use Rattle.linker.specs.Directories.{laid_by};
+ghost use Rattle.linker.specs.Fitting.{AllKnown, JoinSays};
 
+use crate::NotLinked;
 use crate::directory::Directory;
-use crate::fitting::{find_places, fit_code};
-use crate::laying::Laid;
+use crate::fitting::Fitter;
+use crate::laying::HEAD;
+use arrayvec::ArrayVec;
 
-// How many places of an object's wants are kept while its code is fitted; those of further wants are looked for at each fit.
-const KEPT: usize = 256;
+// How many places of wants are kept from when wants are checked until code is fitted.
+const KEPT: usize = 32768;
 
-// Writes an object's code, fitted, to the front of the words.
-fn write_code(directory: &Directory, own: &Laid, words: &mut [u32])
-    requires ready { Ready directory.now.laid.now }
-    requires met { Met (laid_by directory.now) (laid_of own.now).object.wants }
-    requires space { length (laid_of own.now).object.code ≤ length words.old }
-    ensures { words.new ≡ fitted_code (laid_by directory.now) (laid_of own.now) ++ drop (length (laid_of own.now).object.code) words.old }
-{
-    let mut places = [0; KEPT];
-    let count = find_places(directory, &own.object, &mut places);
-    let size = own.object.code.len();
-    let code = &mut words[0..size];
-    code.copy_from_slice(own.object.code);
-    fit_code(directory, own, &places[0..count], code);
+// The numbers of the machine's two instructions that an image begins with: to stand over the machine's crate for these alone would be no plainer.
+const CALL: u32 = 8;
+
+const HALT: u32 = 0;
+
+// What the halt at an image's head is given: that the program is done.
+const DONE: u32 = 1;
+
+// What objects' codes are written by: the objects, and the places of the first of their wants, one object's behind the other's.
+#[derive(Debug, Drop)]
+pub struct Writer<'w, 't, 'a> {
+    directory: &'w Directory<'t, 'a>,
+    known: &'w [u32],
+    // all wants of all objects are met
+    ghost met: { is_some (codes (laid_by directory.now) (laid_by directory.now)) ≡ true },
+    // the places are those of their first wants
+    ghost right: { AllKnown (laid_by directory.now) (laid_by directory.now) known.now },
 }
 
-// Writes the objects' codes, each fitted, one behind the other.
-fn write_codes(directory: &Directory, words: &mut [u32])
-    requires ready { Ready directory.now.laid.now }
-    requires met { is_some (codes (laid_by directory.now) (laid_by directory.now)) ≡ true }
-    requires space { all_code (objects_of directory.now.laid.now) ≤ length words.old }
-    ensures { words.new ≡ fitted_codes (laid_by directory.now) (laid_by directory.now) ++ drop (all_code (objects_of directory.now.laid.now)) words.old }
-{
-    let mut at = 0;
-    for own in directory.laid {
-        write_code(directory, own, &mut words[at..]);
-        at += own.object.code.len();
+impl Writer<'_, '_, '_> {
+    ghost use Rattle.linker.specs.Writers.{written_by, space_of};
+
+    // Writes the objects' codes, each fitted, one behind the other.
+    fn write_codes(&self, words: &mut [u32])
+        requires { space_of self.now ≤ length words.old }
+        ensures { words.new ≡ written_by self.now ++ drop (space_of self.now) words.old }
+    {
+        let directory = self.directory;
+        let mut known = self.known;
+        // by an offset: behind a loop that goes down the words by split_at_mut the proof knows nothing of what they hold
+        let mut at = 0;
+        for own in directory.laid {
+            let (first, others) = known.split_at(known.len().min(own.object.wants.len()));
+            let fitter = Fitter {
+                directory,
+                own,
+                known: first,
+            };
+            let end = at + own.object.code.len();
+            fitter.write(&mut words[at..end]);
+            known = others;
+            at = end;
+        }
     }
-}
 
-// Writes the image: a call of the entry and a halt with 1, and behind these four words the objects' codes.
-fn write(directory: &Directory, entry: u32, image: &mut [u32])
-    requires ready { Ready directory.now.laid.now }
-    requires met { is_some (codes (laid_by directory.now) (laid_by directory.now)) ≡ true }
-    requires space { 4 + all_code (objects_of directory.now.laid.now) ≤ length image.old }
-    ensures { image.new ≡ (8 ∷ entry ∷ 0 ∷ 1 ∷ fitted_codes (laid_by directory.now) (laid_by directory.now)) ++ drop (4 + all_code (objects_of directory.now.laid.now)) image.old }
-{
-    image[0] = 8;
-    image[1] = entry;
-    image[2] = 0;
-    image[3] = 1;
-    write_codes(directory, &mut image[4..]);
+    // Writes the image: a call of the entry and a halt with 1, and behind these four words the objects' codes.
+    fn write(&self, entry: u32, image: &mut [u32])
+        requires { 4 + space_of self.now ≤ length image.old }
+        ensures { image.new ≡ (8 ∷ entry ∷ 0 ∷ 1 ∷ written_by self.now) ++ drop (4 + space_of self.now) image.old }
+    {
+        let (head, codes) = image.split_at_mut(HEAD as usize);
+        head.copy_from_slice(&[CALL, entry, HALT, DONE]);
+        self.write_codes(codes);
+    }
 }
 
 // Joins the objects to an image, where their wants are met and there is an entry; else the image's words stay as they were.
-pub fn join(directory: &Directory, image: &mut [u32]) -> bool
-    requires ready { Ready directory.now.laid.now }
-    requires space { 4 + all_code (objects_of directory.now.laid.now) ≤ length image.old }
+pub fn join(directory: &Directory, image: &mut [u32]) -> Result<(), NotLinked>
+    requires { 4 + all_code (objects_of directory.now.laid.now) ≤ length image.old }
     ensures { JoinSays (laid_by directory.now) image.old image.new result }
 {
-    let Some(entry) = directory.entry() else {
-        return false;
+    let entry = directory.entry().ok_or(NotLinked::Missing)?;
+    let mut places: ArrayVec<u32, KEPT> = ArrayVec::new();
+    directory.find_all(&mut places)?;
+    let writer = Writer {
+        directory,
+        known: &places,
     };
-    if !directory.meets_all() {
-        return false;
-    }
-    write(directory, entry, image);
-    true
+    writer.write(entry, image);
+    Ok(())
 }

@@ -3,7 +3,7 @@
 
 #[cfg(test)]
 mod tests {
-    use linker::{Linked, link};
+    use linker::{Image, NotLinked, link};
     use std::alloc::{AllocError, Global};
     use std::process::Abort;
     use std::test::Fail;
@@ -26,7 +26,11 @@ mod tests {
     ];
 
     // Links the objects, one behind the other, into an image whose words were all 7.
-    fn link_row(heap: Global, objects: &[&[u32]], image: &mut [u32]) -> Result<Linked, AllocError> {
+    fn link_row(
+        heap: Global,
+        objects: &[&[u32]],
+        image: &mut [u32],
+    ) -> Result<Result<Image, NotLinked>, AllocError> {
         let mut row = Vec::new(heap);
         for object in objects {
             row.extend_from_slice(object)?;
@@ -38,7 +42,7 @@ mod tests {
     fn worked_image(rt: HostRuntime) -> Result<(), Fail> {
         let mut image = [7; 80];
         let linked = link_row(rt.alloc(), &[&ASKS, &SUMS], &mut image)?;
-        assert_eq!(rt; linked, Linked::Image(46, 1));
+        assert_eq!(rt; linked, Ok(Image { size: 46, words: 1 }));
         let expected = [
             8, 4, 0, 1, 16, 0, 14, 5, 9, 0, 12, 0, 8, 28, 11, 0, 13, 0, 12, 0, 8, 28, 11, 0, 15, 5,
             10, 0, 16, 0, 14, 7, 9, 1, 3, 0, 2, 0, 5, 0, 4, 0, 15, 7, 10, 1, 7,
@@ -51,7 +55,7 @@ mod tests {
     fn third_unit_between(rt: HostRuntime) -> Result<(), Fail> {
         let mut image = [7; 100];
         let linked = link_row(rt.alloc(), &[&ASKS, &IDLE, &SUMS], &mut image)?;
-        assert_eq!(rt; linked, Linked::Image(58, 4));
+        assert_eq!(rt; linked, Ok(Image { size: 58, words: 4 }));
         let expected = [
             8, 4, 0, 1, 16, 0, 14, 5, 9, 0, 12, 0, 8, 40, 11, 0, 13, 0, 12, 0, 8, 40, 11, 0, 15, 5,
             10, 0, 16, 0, 14, 5, 9, 0, 1, 7, 15, 5, 10, 0, 16, 0, 14, 7, 9, 1, 3, 3, 2, 0, 5, 0, 4,
@@ -66,12 +70,12 @@ mod tests {
         rt: &impl Abort,
         heap: Global,
         objects: &[&[u32]],
-        refusal: Linked,
+        refusal: NotLinked,
         why: &str,
     ) -> Result<(), Fail> {
         let mut image = [7; 100];
         let linked = link_row(heap, objects, &mut image)?;
-        assert_eq!(rt; linked, refusal, "{why}");
+        assert_eq!(rt; linked, Err(refusal), "{why}");
         assert_eq!(rt; image, [7; 100], "{why}");
         Ok(())
     }
@@ -79,32 +83,32 @@ mod tests {
     #[test]
     fn missing(rt: HostRuntime) -> Result<(), Fail> {
         let first = "the first has no procedure 0 without arguments";
-        refused(&rt, rt.alloc(), &[&SUMS, &ASKS], Linked::Missing, first)?;
+        refused(&rt, rt.alloc(), &[&SUMS, &ASKS], NotLinked::Missing, first)?;
         refused(
             &rt,
             rt.alloc(),
             &[&ASKS],
-            Linked::Missing,
+            NotLinked::Missing,
             "unit 2 isn't there",
         )?;
-        refused(&rt, rt.alloc(), &[], Linked::Missing, "no object at all")
+        refused(&rt, rt.alloc(), &[], NotLinked::Missing, "no object at all")
     }
 
     #[test]
     fn name_twice(rt: HostRuntime) -> Result<(), Fail> {
-        refused(&rt, rt.alloc(), &[&ASKS, &ASKS], Linked::Twice, "both")?;
+        refused(&rt, rt.alloc(), &[&ASKS, &ASKS], NotLinked::Twice, "both")?;
         refused(
             &rt,
             rt.alloc(),
             &[&SUMS, &IDLE, &IDLE],
-            Linked::Twice,
+            NotLinked::Twice,
             "the last two",
         )
     }
 
     #[test]
     fn no_objects(rt: HostRuntime) -> Result<(), Fail> {
-        let none = Linked::NoObjects;
+        let none = NotLinked::NoObjects;
         refused(&rt, rt.alloc(), &[&ASKS, &[5]], none, "a word left over")?;
         refused(&rt, rt.alloc(), &[&ASKS[0..41]], none, "a word too few")?;
         refused(
@@ -127,8 +131,8 @@ mod tests {
     #[test]
     fn no_space(rt: HostRuntime) {
         let mut image = [7; 36];
-        assert_eq!(rt; link(&SUMS, &mut image), Linked::NoSpace);
-        assert_eq!(rt; link(&[5], &mut image[0..4]), Linked::NoSpace);
+        assert_eq!(rt; link(&SUMS, &mut image), Err(NotLinked::NoSpace));
+        assert_eq!(rt; link(&[5], &mut image[0..4]), Err(NotLinked::NoSpace));
         assert_eq!(rt; image, [7; 36]);
     }
 
@@ -139,7 +143,7 @@ mod tests {
             0, 2, 2, 0, 3, 2, 0, 3, 0, 0, 3, 1, 0, 4, 0, 9,
         ];
         let mut image = [7; 45];
-        assert_eq!(rt; link(&object, &mut image), Linked::Image(9, 0));
+        assert_eq!(rt; link(&object, &mut image), Ok(Image { size: 9, words: 0 }));
         assert_eq!(rt; &image[0..10], &[8, 5, 0, 1, 10, 28, 5, 9, 3, 7][0..10]);
     }
 
@@ -151,7 +155,7 @@ mod tests {
         let offers = [2, 0, 0, 3, 3, 0, 0, 1, 0, 0, 2, 1, 0, 2, 2, 11, 12, 13];
         let mut image = [7; 45];
         let linked = link_row(rt.alloc(), &[&wants, &offers], &mut image)?;
-        assert_eq!(rt; linked, Linked::Image(9, 0));
+        assert_eq!(rt; linked, Ok(Image { size: 9, words: 0 }));
         assert_eq!(rt; &image[0..10], &[8, 4, 0, 1, 7, 6, 11, 12, 13, 7][0..10]);
         Ok(())
     }

@@ -1,7 +1,7 @@
 -- The two ends of a machine: what it puts out and what it takes from its tape.
 use Rattle.std.proofs.Common.{◌≡◌, ℕ, ◌+◌, ◌-◌, ◌<◌, ◌≤◌, List, [], ◌∷◌, ◌++◌, length, get_or, take, drop, set, sym, refl, ap, ◌∙◌, add-zero, arith}
 use Rattle.std.proofs.lemmas.List.{take_more_set, drop-set-lt, drop-drop, get_or-drop, drop_all}
-use Rattle.machine.specs.declared.registers.Status.TheVariants.{Running}
+use Rattle.machine.specs.declared.ending.Status.TheVariants.{Running}
 use Rattle.machine.specs.declared.registers.Registers.{Registers}
 use Rattle.machine.specs.Registers.{halted_as, OneOut, TookNext}
 

@@ -1,8 +1,8 @@
 -- A run by turns: what stays true from turn to turn.
 use Rattle.std.proofs.Common.{◌≡◌, ℕ, suc, ◌+◌, ◌-◌, ◌*◌, ◌^◌, ◌<◌, ◌≤◌, List, length, drop, sym, refl, ap, ◌∙◌, arith, length-append}
 use Rattle.std.proofs.lemmas.List.{drop-drop}
-use Rattle.machine.specs.declared.registers.Status.{Status}
-use Rattle.machine.specs.declared.registers.Status.TheVariants.{Running, Done, NoCalls, NoRoom, Wild}
+use Rattle.machine.specs.declared.ending.Status.{Status}
+use Rattle.machine.specs.declared.ending.Status.TheVariants.{Running, Done, NoCalls, NoRoom, Wild}
 use Rattle.machine.specs.declared.registers.Registers.{Registers}
 use Rattle.machine.specs.Machine.{Machine}
 use Rattle.machine.specs.Instructions.{step, steps}

@@ -1,13 +1,15 @@
 -- How the program holds a machine: registers, a memory, and places in the tape and in what is put out.
 use Rattle.std.specs.Prelude.{◌≡◌, ℕ, suc, ◌+◌, ◌*◌, ◌^◌, ◌<◌, ◌≤◌, cond, ◌&&◌, List, length, take, drop, Some, None, Option, ◌==◌, nat_lt, slice_index}
-use Rattle.std.specs.Option.{option_map}
+use Rattle.std.specs.Borrow.{MutBor}
 use Rattle.std.specs.List.{slice_get}
-use Rattle.machine.specs.declared.registers.Status.{Status}
-use Rattle.machine.specs.declared.registers.Status.TheVariants.{Running, Done, NoCalls, NoRoom, Wild}
+use Rattle.machine.specs.declared.ending.Status.{Status}
+use Rattle.machine.specs.declared.ending.Status.TheVariants.{Running, Done, NoCalls, NoRoom, Wild}
 use Rattle.machine.specs.declared.registers.Registers.{Registers}
 use Rattle.machine.specs.declared.instruction.Instruction.{Instruction}
+use Rattle.machine.specs.declared.opcode.Opcode.{Opcode}
+use Rattle.machine.specs.Opcodes.{opcode_of}
 use Rattle.machine.specs.Machine.{Machine}
-use Rattle.machine.specs.Instructions.{Out, Next, act, step, steps}
+use Rattle.machine.specs.Instructions.{Out, Next, act, decode, step, steps}
 
 abbrev pub halted_as : Status → ℕ
 halted_as Running = 0
@@ -28,13 +30,18 @@ begin_registers words room calls = record { pc = 0; fp = words; sp = words; free
 abbrev pub with_status : Registers → Status → Registers
 with_status r status = record { pc = r.pc; fp = r.fp; sp = r.sp; free = r.free; left = r.left; read = r.read; put = r.put; status = status }
 
--- the instruction at a place of the code
-abbrev pub instruction_at : List ℕ → ℕ → Option Instruction
-instruction_at code pc = option_map (λ w. record { what = w; n = slice_index code (pc + 1) }) (slice_get code pc)
+-- the same registers at the instruction behind
+abbrev pub next_registers : Registers → Registers
+next_registers r = record { pc = r.pc + 2; fp = r.fp; sp = r.sp; free = r.free; left = r.left; read = r.read; put = r.put; status = r.status }
 
--- its operand, if it is instruction number `what` and all of it lies in the code
+-- the instruction at a place of the code, where an opcode's number stands there
+abbrev pub Fetched : List ℕ → ℕ → Option Instruction → Type 0
+Fetched code pc None = decode (slice_get code pc) ≡ None
+Fetched code pc (Some i) = (decode (slice_get code pc) ≡ Some (opcode_of i.opcode)) × (slice_index code (pc + 1) ≡ i.n)
+
+-- its operand, if its opcode has that number and all of it lies in the code
 abbrev pub operand_at : List ℕ → ℕ → ℕ → Option ℕ
-operand_at code pc what = cond (nat_lt (pc + 1) (length code) && slice_index code pc == what) (Some (slice_index code (pc + 1))) None
+operand_at code pc number = cond (nat_lt (pc + 1) (length code) && slice_index code pc == number) (Some (slice_index code (pc + 1))) None
 
 -- pc, fp and sp are at most b: what a run can come to fits in 64 bits
 abbrev pub Within : ℕ → Registers → Type 0
@@ -50,9 +57,14 @@ pub record Acted (r r' : Registers) (memory memory' : List ℕ) (f : Machine →
   pub put : r'.put ≡ r.put
   pub within : (b : ℕ) → 2 ^ 32 ≤ b → Within b r → Within (b + 2) r'
 
--- the same with any memory, which stays
+-- the same of what leaves the memory as it is
 abbrev pub ActedAlone : Registers → Registers → (Machine → Machine) → Type 0
 ActedAlone r r' f = (memory : List ℕ) → Acted r r' memory memory f
+
+-- a call of a closure, of which pre and post tell, does what the opcode's instruction does
+abbrev pub Does : Opcode → (Registers → ℕ → MutBor (List ℕ) → Type 0) → (Registers → ℕ → MutBor (List ℕ) → Registers → MutBor (List ℕ) → Type 0) → Type 0
+Does opcode pre post = (r : Registers) (n : ℕ) (memory : MutBor (List ℕ)) → Ready r →
+    pre r n memory × ((r' : Registers) (memory' : MutBor (List ℕ)) → post r n memory r' memory' → Acted r r' memory.now memory'.now (act (opcode_of opcode) n))
 
 -- one word more is put out, and what lies behind it in out is as it was; nothing where out is full
 pub record OneOut (r r' : Registers) (memory out out' : List ℕ) : Type 0 where
@@ -78,9 +90,6 @@ pub record WentOn (code : List ℕ) (spare : ℕ) (r : Registers) (memory memory
   pub few : k ≤ spare
   pub put : r'.put ≡ r.put
   pub within : (b : ℕ) → 2 ^ 32 ≤ b → Within b r → Within (b + 2 * k) r'
-
-abbrev pub WentOnAlone : List ℕ → ℕ → Registers → Registers → ℕ → Type 0
-WentOnAlone code spare r r' k = (memory : List ℕ) → WentOn code spare r memory memory r' k
 
 -- one step from the machine that r stands for, and k more; what lies behind the words put out is as it was
 pub record Turned (code tape : List ℕ) (spare : ℕ) (r : Registers) (memory memory' out out' : List ℕ) (r' : Registers) (k : ℕ) : Type 0 where

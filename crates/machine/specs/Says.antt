@@ -1,9 +1,11 @@
 -- What `go` promises, on any code, tape and memory.
-use Rattle.std.specs.Prelude.{◌≡◌, ℕ, ◌+◌, ◌<◌, ◌↔◌, List, length, take, drop}
+use Rattle.std.specs.Prelude.{◌≡◌, ℕ, ◌+◌, ◌<◌, ◌↔◌, List, length, take, drop, Result, Ok, Err}
 use Rattle.machine.specs.Machine.{Machine, begin}
 use Rattle.machine.specs.Instructions.{steps}
-use Rattle.machine.specs.declared.Ran.{Ran}
-use Rattle.machine.specs.declared.Ran.TheVariants.{Done, NoCalls, NoRoom, Wild, More, OutFull, Small}
+use Rattle.machine.specs.Registers.{halted_as}
+use Rattle.machine.specs.declared.ending.Ran.{Ran}
+use Rattle.machine.specs.declared.ending.NotRun.{NotRun}
+use Rattle.machine.specs.declared.ending.NotRun.TheVariants.{OutFull, Small}
 
 -- the run stands at m, which halted so; its n words put out stand first in o', and the rest of o is as it was
 pub record Stands (m : Machine) (halted : ℕ) (o o' : List ℕ) (n : ℕ) : Type 0 where
@@ -13,16 +15,12 @@ pub record Stands (m : Machine) (halted : ℕ) (o o' : List ℕ) (n : ℕ) : Typ
   pub rest : drop n o' ≡ drop n o
 
 -- m: the machine after all its steps
-abbrev pub RanSays : Machine → List ℕ → List ℕ → Ran → Type 0
-RanSays m o o' (Done n) = Stands m 1 o o' n
-RanSays m o o' (NoCalls n) = Stands m 2 o o' n
-RanSays m o o' (NoRoom n) = Stands m 3 o o' n
-RanSays m o o' (Wild n) = Stands m 4 o o' n
-RanSays m o o' (More n) = Stands m 0 o o' n
-RanSays m o o' OutFull = length o < length m.outs
-RanSays m o o' Small = o' ≡ o
+abbrev pub RanSays : Machine → List ℕ → List ℕ → Result Ran NotRun → Type 0
+RanSays m o o' (Ok r) = Stands m (halted_as r.status) o o' r.put
+RanSays m o o' (Err OutFull) = length o < length m.outs
+RanSays m o o' (Err Small) = o' ≡ o
 
 -- k steps of `code` with so many words of units, room, tape and calls; o and o': out before and after; b: how many work words there are
-pub record RanPost (code : List ℕ) (words room : ℕ) (tape : List ℕ) (calls k : ℕ) (o o' : List ℕ) (b : ℕ) (r : Ran) : Type 0 where
+pub record RanPost (code : List ℕ) (words room : ℕ) (tape : List ℕ) (calls k : ℕ) (o o' : List ℕ) (b : ℕ) (r : Result Ran NotRun) : Type 0 where
   pub says : RanSays (steps k code (begin words room tape calls)) o o' r
-  pub small : (b < words + room) ↔ (r ≡ Small)
+  pub small : (b < words + room) ↔ (r ≡ Err Small)

@@ -1,11 +1,13 @@
 // What each instruction does to the registers and the memory, in the order of the table of instructions.
 ghost use Rattle.std.specs.Prelude.{◌≡◌, ◌-◌, ◌%◌, ◌^◌, ◌≤◌, length, slice_index};
 ghost use Rattle.machine.specs.Instructions.{act, Halt, Push, Arg, Load, Store, Operate, JumpIfZero, Jump, Call, SetFrame, Return, Pop, Reserve, Release, Count};
-ghost use Rattle.machine.specs.Registers.{Ready, Acted, ActedAlone, PutOut, TookNext, with_status};
+ghost use Rattle.machine.specs.Registers.{Ready, Acted, ActedAlone, PutOut, TookNext, with_status, next_registers};
 
-use crate::memory::{at, keep};
-use crate::registers::{Registers, Status};
-use rows::operations::operate;
+use crate::ending::Status;
+use crate::memory::keep;
+use crate::registers::Registers;
+use rows::operations::Operation;
+use rows::words::word_at;
 
 // The word that a number is modulo 2^32.
 fn low_word(x: usize) -> u32
@@ -19,7 +21,18 @@ impl Registers {
     pub fn top(self, memory: &[u32]) -> u32
         ensures { result ≡ slice_index memory.now (self.sp - 1) }
     {
-        at(memory, self.sp.saturating_sub(1))
+        word_at(memory, self.sp.saturating_sub(1))
+    }
+
+    // On to the instruction behind this one.
+    pub fn next(self) -> Registers
+        requires { Ready self }
+        ensures { result ≡ next_registers self }
+    {
+        Registers {
+            pc: self.pc + 2,
+            ..self
+        }
     }
 
     // The machine stops.
@@ -29,16 +42,15 @@ impl Registers {
         Registers { status, ..self }
     }
 
+    // set_frame, pop and reserve take what they do not use, so that `then` takes them by name as it takes operate and return_from.
+    // `Ready` is a clause of each instruction and no invariant: every step raises the bound in it by 2, so no one bound holds of all
+    // registers.
+
     // 0: halt with n.
     pub fn halt(self, n: u32) -> Registers
         ensures { ActedAlone self result (act Halt n) }
     {
-        match n {
-            1 => self.stop(Status::Done),
-            2 => self.stop(Status::NoCalls),
-            3 => self.stop(Status::NoRoom),
-            _ => self.stop(Status::Wild),
-        }
+        self.stop(Status::from(n))
     }
 
     // 1: push n.
@@ -48,9 +60,8 @@ impl Registers {
     {
         keep(memory, self.sp, n);
         Registers {
-            pc: self.pc + 2,
             sp: self.sp + 1,
-            ..self
+            ..self.next()
         }
     }
 
@@ -59,7 +70,7 @@ impl Registers {
         requires { Ready self }
         ensures { Acted self result memory.old memory.new (act Arg n) }
     {
-        let v = at(memory, self.fp + n as usize);
+        let v = word_at(memory, self.fp + n as usize);
         self.push(v, memory)
     }
 
@@ -68,7 +79,7 @@ impl Registers {
         requires { Ready self }
         ensures { Acted self result memory.old memory.new (act Load n) }
     {
-        let v = at(memory, n as usize);
+        let v = word_at(memory, n as usize);
         self.push(v, memory)
     }
 
@@ -79,10 +90,7 @@ impl Registers {
     {
         let top = self.top(memory);
         keep(memory, n as usize, top);
-        Registers {
-            pc: self.pc + 2,
-            ..self
-        }
+        self.next()
     }
 
     // 5: operation n on the two topmost.
@@ -90,23 +98,22 @@ impl Registers {
         requires { Ready self }
         ensures { Acted self result memory.old memory.new (act Operate n) }
     {
-        let x = at(memory, self.sp.saturating_sub(2));
+        let x = word_at(memory, self.sp.saturating_sub(2));
         let y = self.top(memory);
-        let Some(v) = operate(n, x, y) else {
+        let Ok(operation) = Operation::try_from(n) else {
             return self.stop(Status::Wild);
         };
-        keep(memory, self.sp.saturating_sub(2), v);
+        keep(memory, self.sp.saturating_sub(2), operation.apply(x, y));
         Registers {
-            pc: self.pc + 2,
             sp: self.sp.saturating_sub(1),
-            ..self
+            ..self.next()
         }
     }
 
     // 6: pop, go to n if it was 0.
-    pub fn jump_if_zero(self, n: u32, memory: &[u32]) -> Registers
+    pub fn jump_if_zero(self, n: u32, memory: &mut [u32]) -> Registers
         requires { Ready self }
-        ensures { Acted self result memory.now memory.now (act JumpIfZero n) }
+        ensures { Acted self result memory.old memory.new (act JumpIfZero n) }
     {
         let sp = self.sp.saturating_sub(1);
         if self.top(memory) == 0 {
@@ -116,11 +123,7 @@ impl Registers {
                 ..self
             };
         }
-        Registers {
-            pc: self.pc + 2,
-            sp,
-            ..self
-        }
+        Registers { sp, ..self.next() }
     }
 
     // 7: go to n.
@@ -149,14 +152,13 @@ impl Registers {
     }
 
     // 9: fp becomes sp less n and 2.
-    pub fn set_frame(self, n: u32) -> Registers
+    pub fn set_frame(self, n: u32, _memory: &mut [u32]) -> Registers
         requires { Ready self }
-        ensures { ActedAlone self result (act SetFrame n) }
+        ensures { Acted self result _memory.old _memory.new (act SetFrame n) }
     {
         Registers {
-            pc: self.pc + 2,
             fp: self.sp.saturating_sub(2 + n as usize),
-            ..self
+            ..self.next()
         }
     }
 
@@ -166,8 +168,8 @@ impl Registers {
         ensures { Acted self result memory.old memory.new (act Return n) }
     {
         let top = self.top(memory);
-        let pc = at(memory, self.fp + n as usize);
-        let fp = at(memory, self.fp + (n as usize + 1));
+        let pc = word_at(memory, self.fp + n as usize);
+        let fp = word_at(memory, self.fp + (n as usize + 1));
         keep(memory, self.fp, top);
         Registers {
             pc: pc as usize,
@@ -183,15 +185,15 @@ impl Registers {
         requires put { self.put ≤ length out.old }
         ensures { PutOut self memory.now out.old out.new result }
     {
+        // By an index, for the reason that stands at `keep`.
         let put = self.put;
         if put >= out.len() {
             return None;
         }
         out[put] = self.top(memory);
         Some(Registers {
-            pc: self.pc + 2,
             put: put + 1,
-            ..self
+            ..self.next()
         })
     }
 
@@ -200,44 +202,41 @@ impl Registers {
         requires { Ready self }
         ensures { TookNext self tape.now memory.old memory.new result }
     {
-        keep(memory, self.sp, at(tape, self.read));
+        keep(memory, self.sp, word_at(tape, self.read));
         let read = if self.read < tape.len() {
             self.read + 1
         } else {
             self.read
         };
         Registers {
-            pc: self.pc + 2,
             sp: self.sp + 1,
             read,
-            ..self
+            ..self.next()
         }
     }
 
     // 13: pop.
-    pub fn pop(self) -> Registers
+    pub fn pop(self, _n: u32, _memory: &mut [u32]) -> Registers
         requires { Ready self }
-        ensures { ActedAlone self result (act Pop 0) }
+        ensures { Acted self result _memory.old _memory.new (act Pop _n) }
     {
         Registers {
-            pc: self.pc + 2,
             sp: self.sp.saturating_sub(1),
-            ..self
+            ..self.next()
         }
     }
 
     // 14: free less n, or halt with 3.
-    pub fn reserve(self, n: u32) -> Registers
+    pub fn reserve(self, n: u32, _memory: &mut [u32]) -> Registers
         requires { Ready self }
-        ensures { ActedAlone self result (act Reserve n) }
+        ensures { Acted self result _memory.old _memory.new (act Reserve n) }
     {
         if self.free < n {
             return self.stop(Status::NoRoom);
         }
         Registers {
-            pc: self.pc + 2,
             free: self.free - n,
-            ..self
+            ..self.next()
         }
     }
 
@@ -247,9 +246,8 @@ impl Registers {
         ensures { ActedAlone self result (act Release n) }
     {
         Registers {
-            pc: self.pc + 2,
             free: self.free.wrapping_add(n),
-            ..self
+            ..self.next()
         }
     }
 
@@ -262,9 +260,8 @@ impl Registers {
             return self.stop(Status::NoCalls);
         }
         Registers {
-            pc: self.pc + 2,
             left: self.left - 1,
-            ..self
+            ..self.next()
         }
     }
 }

@@ -4,30 +4,24 @@
 ghost use Rattle.std.specs.Prelude.{length};
 ghost use Rattle.machine.specs.Says.{RanPost};
 
-use crate::registers::{Registers, Status};
+use crate::registers::Registers;
 use crate::run::run;
 
 mod act;
+mod ending;
 mod instruction;
 mod memory;
+mod opcode;
 mod registers;
 mod run;
 mod turn;
 
-// How a run stands: so many words put out.
-#[derive(Clone, Copy, PartialEq, Eq, Debug)]
-pub enum Ran {
-    Done(usize),
-    NoCalls(usize),
-    NoRoom(usize),
-    Wild(usize),
-    More(usize),
-    OutFull,
-    Small,
-}
+pub use ending::{NotRun, Ran, Status};
+pub use opcode::{Opcode, UnknownOpcode};
 
 // Runs code with so many words of units, room, tape and calls, for so many steps. What is put out stands first in `out`, and the
 // rest of `out` stays; where it does not fit, and in `work`, anything may be left.
+// Room, calls and steps are plain parameters, since firms call `go` as it stands: its signature is fixed.
 pub fn go(
     code: &[u32],
     words: u32,
@@ -37,30 +31,16 @@ pub fn go(
     steps: u32,
     out: &mut [u32],
     work: &mut [u32],
-) -> Ran
+) -> Result<Ran, NotRun>
     ensures { RanPost code.now words room tape.now calls steps out.old out.new (length work.old) result }
 {
     let size = words as usize + room as usize;
-    if work.len() < size {
-        return Ran::Small;
-    }
-    let memory = &mut work[0..size];
+    let memory = work.get_mut(..size).ok_or(NotRun::Small)?;
     memory.fill(0);
-    let Some(end) = run(
-        code,
-        tape,
-        Registers::begin(words, room, calls),
-        steps,
-        memory,
-        out,
-    ) else {
-        return Ran::OutFull;
-    };
-    match end.status {
-        Status::Running => Ran::More(end.put),
-        Status::Done => Ran::Done(end.put),
-        Status::NoCalls => Ran::NoCalls(end.put),
-        Status::NoRoom => Ran::NoRoom(end.put),
-        Status::Wild => Ran::Wild(end.put),
-    }
+    let start = Registers::begin(words, room, calls);
+    let end = run(code, tape, start, steps, memory, out).ok_or(NotRun::OutFull)?;
+    Ok(Ran {
+        status: end.status,
+        put: end.put,
+    })
 }

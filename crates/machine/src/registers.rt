@@ -1,18 +1,12 @@
 ghost use Rattle.std.specs.Prelude.{◌≡◌};
 ghost use Rattle.machine.specs.Registers.{begin_registers};
 
-// How a machine stands.
-#[derive(Clone, Copy)]
-pub enum Status {
-    Running,
-    Done,
-    NoCalls,
-    NoRoom,
-    Wild,
-}
+use crate::ending::Status;
 
 // A machine without its memory: where it stands in its code, stack, tape and output, its budgets, and whether it runs.
-#[derive(Clone, Copy)]
+// `put` stands here and apart from the lent `out`: registers are copied at each instruction, so they can't hold a `&mut`, and a struct
+// of the two would go by `&mut` wherever `out` goes now, with no parameter less.
+#[derive(Clone, Copy, PartialEq, Eq, Debug)]
 pub struct Registers {
     pub pc: usize,
     pub fp: usize,

@@ -1,8 +1,9 @@
-// Runs of the machine, by turns.
+// Runs of the machine, by turns. `Within` is a clause and no invariant, for the reason that stands at `Ready` in act.rt.
 ghost use Rattle.std.specs.Prelude.{◌^◌, ◌≤◌, length};
 ghost use Rattle.machine.specs.Registers.{Within, RunSays, StepSays};
 
-use crate::registers::{Registers, Status};
+use crate::ending::Status;
+use crate::registers::Registers;
 use crate::turn::turn;
 
 // So many steps, or as many as there are until the machine halts; nothing where the words put out do not fit in `out`.
@@ -18,22 +19,22 @@ pub fn run(
     requires put { start.put ≤ length out.old }
     ensures { RunSays code.now tape.now steps start memory.old memory.new out.old out.new result }
 {
+    // No `for`: a turn goes one step or several.
     let mut r = start;
     let mut left = steps;
     while left > 0 {
         let Status::Running = r.status else {
             return Some(r);
         };
-        let Some((next, more)) = turn(code, tape, r, left - 1, memory, out) else {
-            return None;
-        };
+        let (next, more) = turn(code, tape, r, left - 1, memory, out)?;
         r = next;
         left = left - 1 - more;
     }
     Some(r)
 }
 
-// One step of the machine, from any registers whose places are those of a run.
+// One step of the machine, from any registers whose places are those of a run. Nothing calls this: it states that one step is the
+// definition's step.
 pub fn step(
     code: &[u32],
     tape: &[u32],

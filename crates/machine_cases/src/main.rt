@@ -4,7 +4,7 @@
 #![tactic(auto)]
 
 use decimal::input::read_words;
-use machine::Ran;
+use machine::{NotRun, Ran};
 use std::fs;
 
 fn main(rt: HostRuntime) -> anyhow::Result<()> {
@@ -18,66 +18,56 @@ fn run(rt: &HostRuntime) -> anyhow::Result<()> {
         println!(rt; "{e}")?;
     }
     let names = fs::read_to_string(rt, "names")?;
-    let mut at = 0;
+    let mut rest = words.as_slice();
     for name in names.as_str().lines() {
         rt.print(name)?;
-        at = case(rt, words.as_slice(), at)?;
+        rest = case(rt, rest)?;
     }
     Ok(())
 }
 
-// The words that a case counts at a place, and the place behind them.
-fn counted(words: &[u32], at: usize) -> (&[u32], usize) {
-    if at >= words.len() {
-        return (&words[0..0], at);
-    }
-    let from = at + 1;
-    let n = words[at] as usize;
-    if n > words.len() - from {
-        return (&words[0..0], at);
-    }
-    (&words[from..from + n], from + n)
+// The words that are counted in front, and what stands behind them; none where there are fewer.
+fn counted(words: &[u32]) -> (&[u32], &[u32]) {
+    let Some((n, rest)) = words.split_first() else {
+        return (&[], words);
+    };
+    rest.split_at_checked(*n as usize).unwrap_or((&[], words))
 }
 
-fn number(words: &[u32], at: usize) -> u32 {
-    words.get(at).copied().unwrap_or(0)
-}
-
-// Runs the case at a place, prints what comes of it, and gives the place behind it.
-fn case(rt: &HostRuntime, words: &[u32], at: usize) -> anyhow::Result<usize> {
-    let (code, at) = counted(words, at);
-    let (tape, at) = counted(words, at);
-    let at = at.min(words.len());
-    let mut out = vec![in rt.alloc(); 77u32; number(words, at + 4) as usize]?;
-    let mut work = vec![in rt.alloc(); 77u32; number(words, at + 5) as usize]?;
+// Runs the case in front, prints what comes of it, and gives what stands behind it.
+fn case<'a>(rt: &HostRuntime, words: &'a [u32]) -> anyhow::Result<&'a [u32]> {
+    let (code, rest) = counted(words);
+    let (tape, rest) = counted(rest);
+    let [units, room, calls, steps, out, work, rest @ ..] = rest else {
+        return Ok(&[]);
+    };
+    let mut out = vec![in rt.alloc(); 77u32; *out as usize]?;
+    let mut work = vec![in rt.alloc(); 77u32; *work as usize]?;
     let ran = machine::go(
         code,
-        number(words, at),
-        number(words, at + 1),
+        *units,
+        *room,
         tape,
-        number(words, at + 2),
-        number(words, at + 3),
+        *calls,
+        *steps,
         out.as_mut_slice(),
         work.as_mut_slice(),
     );
     show(rt, out.as_slice(), ran)?;
-    Ok(at + 6)
+    Ok(rest)
 }
 
-fn show(rt: &HostRuntime, out: &[u32], ran: Ran) -> anyhow::Result<()> {
-    let (n, ending) = match ran {
-        Ran::Done(n) => (n, "done"),
-        Ran::NoCalls(n) => (n, "no calls"),
-        Ran::NoRoom(n) => (n, "no room"),
-        Ran::Wild(n) => (n, "wild"),
-        Ran::More(n) => (n, "more"),
-        Ran::OutFull => (0, "out full"),
-        Ran::Small => (0, "small"),
-    };
+// Prints what was put out and how the run ended, or why there is none.
+fn show(rt: &HostRuntime, out: &[u32], ran: Result<Ran, NotRun>) -> anyhow::Result<()> {
     rt.print(":")?;
-    for x in out.iter().take(n) {
-        print!(rt; " {x}")?;
+    match ran {
+        Ok(Ran { status, put }) => {
+            for x in out.iter().take(put) {
+                print!(rt; " {x}")?;
+            }
+            println!(rt; " {status}")?;
+        }
+        Err(e) => println!(rt; " {e}")?,
     }
-    println!(rt; " {ending}")?;
     Ok(())
 }

@@ -23,14 +23,12 @@ mod tests {
     fn a_text_with_a_sign(rt: HostRuntime) -> Result<(), Fail> {
         let mut words = Vec::new(rt.alloc());
         let mut text = "5 7\n\n8 -9 10".as_bytes();
-        match read_words(&mut text, &mut words, 4) {
-            Err(InputError::NoNumber { line, before }) => {
-                assert_eq!(rt; line, 3);
-                assert_eq!(rt; before, 3);
-                Ok(())
-            }
-            _ => Err(Fail::new("not refused")),
-        }
+        let Err(InputError::NoNumber { line, before }) = read_words(&mut text, &mut words, 4) else {
+            return Err(Fail::new("not refused"));
+        };
+        assert_eq!(rt; line, 3);
+        assert_eq!(rt; before, 3);
+        Ok(())
     }
 
     // One number more than there is room for.
@@ -38,13 +36,30 @@ mod tests {
     fn a_text_that_is_too_long(rt: HostRuntime) -> Result<(), Fail> {
         let mut words = Vec::new(rt.alloc());
         let mut text = "1 2 3".as_bytes();
-        match read_words(&mut text, &mut words, 2) {
-            Err(InputError::TooLong { limit }) => {
-                assert_eq!(rt; limit, 2);
-                Ok(())
-            },
-            _ => Err(Fail::new("not refused")),
-        }
+        let Err(InputError::TooLong { limit }) = read_words(&mut text, &mut words, 2) else {
+            return Err(Fail::new("not refused"));
+        };
+        assert_eq!(rt; limit, 2);
+        Ok(())
+    }
+
+    // How a refusal is printed.
+    #[test]
+    fn texts_of_refusals(rt: HostRuntime) -> Result<(), Fail> {
+        let bad = InputError::NoNumber { line: 3, before: 3 };
+        let bad = bad.to_string(rt.alloc())?;
+        assert_eq!(rt;
+            bad.as_str(),
+            "line 3: number 4 is not a decimal number below 4294967296"
+        );
+        let long = InputError::TooLong { limit: 2 }.to_string(rt.alloc())?;
+        assert_eq!(rt;
+            long.as_str(),
+            "more than the 2 numbers that there is room for"
+        );
+        let memory = InputError::NoMemory.to_string(rt.alloc())?;
+        assert_eq!(rt; memory.as_str(), "out of memory");
+        Ok(())
     }
 
     // A unit that wants a procedure of one argument and calls it twice.
@@ -69,12 +84,7 @@ mod tests {
     fn a_row_of_no_unit(rt: HostRuntime) -> Result<(), Fail> {
         let mut row = ASKS;
         row[7] = 2;
-        match UnitView::read(&row, &mut [0; 256]) {
-            Ok(_) => Err(Fail::new("a unit")),
-            Err(refusal) => {
-                assert_eq!(rt; refusal, Refusal::NoUnit);
-                Ok(())
-            },
-        }
+        assert_eq!(rt; UnitView::read(&row, &mut [0; 256]), Err(Refusal::NoUnit));
+        Ok(())
     }
 }

@@ -6,8 +6,8 @@ use Rattle.rows.specs.Operations.{Op, Add, Sub, Mul, Div, Less, Same, number, op
 use Rattle.rows.specs.Units.{Expr, num, arg, word, op, if, keep, then, out, next, call, Exprs, nil, cons, count}
 use Rattle.rows.specs.UnitRows.{row_expr, row_exprs}
 use Rattle.rows.specs.Signs.{op_of, op_sign, row_sign, part_count, sign_of, parts}
-use Rattle.rows.specs.declared.signs.Operation.{Operation as OperationSign}
-use Rattle.rows.specs.declared.signs.Operation.TheVariants as sign
+use Rattle.rows.specs.declared.operations.Operation.{Operation as OperationSign}
+use Rattle.rows.specs.declared.operations.Operation.TheVariants as sign
 use Rattle.rows.specs.declared.signs.Sign.{Sign}
 use Rattle.rows.specs.declared.signs.Sign.TheVariants.{Number, Argument, Word, Operation, If, Keep, Then, Out, Next, Call}
 

@@ -2,12 +2,13 @@
 use Rattle.std.proofs.Common.{◌≡◌, ℕ, ◌+◌, ◌*◌, ◌<◌, ◌≤◌, true, leb, List, [], ◌∷◌, ◌++◌, length, take, drop, Some, refl, ap, ◌∙◌, arith}
 use Rattle.std.proofs.lemmas.List.{append_assoc, length-append, length-drop, length-take-le, take_at, drop_at, take-append-drop}
 use Rattle.std.proofs.lemmas.Bool.{le-leb, leb-true}
+use Rattle.std.proofs.lemmas.Option.{none-some, same_Some}
 use Rattle.rows.specs.Objects.{Object}
 use Rattle.rows.specs.UnitRows.{row_wants}
 use Rattle.rows.specs.ObjectRows.{row_offers, row_fits, row_object}
 use Rattle.rows.specs.ObjectViews.{want_in, offer_in, fit_in}
 use Rattle.rows.specs.ObjectReading.{cut, front}
-use Rattle.rows.proofs.Decided.{none≢some, some_injective, let_through}
+use Rattle.rows.proofs.Decided.{let_through}
 use Rattle.rows.proofs.Threefold.{wants_threefold, offers_threefold, fits_threefold, read_again, length_written, written_again, length_items}
 
 regroup : (a b c d e : List ℕ) → (a ++ (b ++ (c ++ d))) ++ e ≡ a ++ (b ++ (c ++ (d ++ e)))
@@ -63,16 +64,16 @@ row_cut name words w o c f xs long = rw (length_items want_in w xs, length_items
 
 -- what is read writes the same words
 pub row_front : (s : List ℕ) (p : Object × List ℕ) → front s ≡ Some p → row_object p.0 ++ p.1 ≡ s
-row_front [] p e = absurd (none≢some p e)
-row_front (a ∷ []) p e = absurd (none≢some p e)
-row_front (a ∷ b ∷ []) p e = absurd (none≢some p e)
-row_front (a ∷ b ∷ c ∷ []) p e = absurd (none≢some p e)
-row_front (a ∷ b ∷ c ∷ d ∷ []) p e = absurd (none≢some p e)
-row_front (a ∷ b ∷ c ∷ d ∷ e ∷ []) p q = absurd (none≢some p q)
+row_front [] p e = absurd (none-some p e)
+row_front (a ∷ []) p e = absurd (none-some p e)
+row_front (a ∷ b ∷ []) p e = absurd (none-some p e)
+row_front (a ∷ b ∷ c ∷ []) p e = absurd (none-some p e)
+row_front (a ∷ b ∷ c ∷ d ∷ []) p e = absurd (none-some p e)
+row_front (a ∷ b ∷ c ∷ d ∷ e ∷ []) p q = absurd (none-some p q)
 row_front (a ∷ b ∷ c ∷ d ∷ e ∷ f ∷ xs) p q = go (let_through (leb (3 * c + 3 * d + e + 3 * f) (length xs)) (Some (cut a b c d e f xs)) p q)
   where
     go : (leb (3 * c + 3 * d + e + 3 * f) (length xs) ≡ true) × (Some (cut a b c d e f xs) ≡ Some p) → row_object p.0 ++ p.1 ≡ a ∷ b ∷ c ∷ d ∷ e ∷ f ∷ xs
-    go h = rw (← some_injective h.1) (row_cut a b c d e f xs (leb-true _ _ h.0))
+    go h = rw (← same_Some _ _ h.1) (row_cut a b c d e f xs (leb-true _ _ h.0))
 
 -- an object's code and the row behind the object are shorter than the row
 pub front_shorter : (s : List ℕ) (p : Object × List ℕ) → front s ≡ Some p → length p.0.code + length p.1 < length s

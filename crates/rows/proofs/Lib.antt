@@ -4,12 +4,10 @@ pub mod Fronts
 pub mod FrontRows
 pub mod ObjectLists
 pub mod Reader
-pub mod WantRows
 pub mod ExprParts
 pub mod SignFronts
 pub mod OneExpr
 pub mod OneUnit
-pub mod Arities
 pub mod RightParts
 pub mod BodyReading
 pub mod Skipping
@@ -17,5 +15,4 @@ pub mod UnitCuts
 pub mod ProcReading
 pub mod Outlines
 pub mod UnitReading
-pub mod SignShapes
-pub mod Wants
+pub mod Fits

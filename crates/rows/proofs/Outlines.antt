@@ -5,7 +5,7 @@ use Rattle.std.specs.List.{slice_get}
 use Rattle.rows.specs.Units.{Expr, Exprs, nil, cons, Proc, SourceUnit, arity}
 use Rattle.rows.specs.Formed.{takes, formed, formed_args}
 use Rattle.rows.specs.Signs.{sign_of, parts}
-use Rattle.rows.specs.WantRows.{wants_said}
+use Rattle.rows.specs.ObjectViews.{wants_in}
 use Rattle.rows.specs.Bodies.{bodiless, outlined, allowed, Right}
 use Rattle.rows.specs.declared.signs.Sign.{Sign}
 use Rattle.rows.specs.declared.signs.Sign.TheVariants.{Number, Argument, Word, Operation, If, Keep, Then, Out, Next, Call}
@@ -39,7 +39,7 @@ own_alike [] i = refl
 own_alike (p ∷ ps) zero = refl
 own_alike (p ∷ ps) (suc i) = own_alike ps i
 
-module _ (u : SourceUnit) (wants arities : List ℕ) (is_wants : wants_said wants ≡ u.wants) (is_arities : map (λ p. p.args) u.procs ≡ arities) where
+module _ (u : SourceUnit) (wants : List (List ℕ)) (arities : List ℕ) (is_wants : wants_in wants ≡ u.wants) (is_arities : map (λ p. p.args) u.procs ≡ arities) where
   arity_alike : (c : ℕ) → arity u c ≡ arity (outlined u.words wants arities) c
   arity_alike c = rw (is_wants, ← is_arities) (ap (λ a. cond (ltb c (length u.wants)) (option_map (λ w. w.args) (slice_get u.wants c)) a) (own_alike u.procs (c - length u.wants)))
 

@@ -1,15 +1,15 @@
 -- Procedures read off a row, one after the other.
-use Rattle.std.proofs.Common.{◌≡◌, ℕ, ◌+◌, ◌-◌, ◌<◌, ◌≤◌, Bool, true, false, eqb, List, [], ◌∷◌, ◌++◌, map, length, get_or, take, drop, set, Some, None, Decides, sym, refl, ap, ◌∙◌, ap₂, arith}
+use Rattle.std.proofs.Common.{◌≡◌, ℕ, ◌+◌, ◌-◌, ◌<◌, ◌≤◌, true, false, eqb, List, [], ◌∷◌, ◌++◌, map, length, get_or, take, drop, set, Some, None, sym, refl, ap, ◌∙◌, ap₂, arith}
 use Rattle.std.specs.List.{AllByRecursion}
-use Rattle.std.proofs.lemmas.List.{append-nil, append_assoc, length-append, take_rest, map_push, take_all, take_more_set, nil_from_length}
+use Rattle.std.proofs.lemmas.List.{append-nil, append_assoc, length-append, take_rest, map_push, take_more_set, nil_from_length}
 use Rattle.std.proofs.lemmas.Slice.{first_rest}
-use Rattle.std.proofs.lemmas.Bool.{true≢false, eqb-true, eqb-false}
+use Rattle.std.proofs.lemmas.Bool.{eqb-true, eqb-false}
 use Rattle.std.proofs.ByRecursion.{All-push}
 use Rattle.rows.specs.Units.{Expr, Proc, SourceUnit}
 use Rattle.rows.specs.UnitRows.{row_expr, row_procs}
 use Rattle.rows.specs.RowFronts.{FrontSays}
 use Rattle.rows.specs.Bodies.{Right}
-use Rattle.rows.specs.UnitParts.{Procedures, FewArgs, AritySays, BodyRight, BodiesRight}
+use Rattle.rows.specs.UnitParts.{Procedures, BodyRight}
 use Rattle.rows.proofs.OneExpr.{one_expr}
 
 pub row_procs-append : (ps qs : List Proc) → row_procs (ps ++ qs) ≡ row_procs ps ++ row_procs qs
@@ -93,12 +93,16 @@ from n row = take (length row - n) (drop n row)
 pub first_word : (left : List ℕ) → 1 ≤ length left → left ≡ get_or left 0 0 ∷ from 1 left
 first_word left h = first_rest left 0 h
 
+-- a first word and the row behind it, taken apart
+pub parted : {left body : List ℕ} {args : ℕ} → left ≡ args ∷ body → (get_or left 0 0 ≡ args) × (from 1 left ≡ body) × (1 ≤ length left)
+parted {left} {body} {args} e = (ap (λ s. get_or s 0 0) e, take_rest left 1 ∙ ap (drop 1) e, omega (arith, ap length e))
+
 -- one more procedure is read: its number of arguments and then its body
-pub body_read : (Ok : Proc → Type 0) (Body : Expr → Type 0) {row left : List ℕ} {i : ℕ} {ps : List Proc} (size : ℕ) → Read Ok row left i ps → 1 ≤ length left → FrontSays row_expr Body (from 1 left) (Some size) → ((e : Expr) → Body e → Ok (record { args = get_or left 0 0; body = e })) → (p : Proc) × (p.args ≡ get_or left 0 0) × Read Ok row (from size (from 1 left)) (i + 1) (ps ++ p ∷ [])
-body_read Ok Body {left} size h long f ok =
+pub body_read : (Ok : Proc → Type 0) (Body : Expr → Type 0) {row left : List ℕ} {i : ℕ} {ps : List Proc} (args : ℕ) (body : List ℕ) (size : ℕ) → Read Ok row left i ps → left ≡ args ∷ body → FrontSays row_expr Body body (Some size) → ((e : Expr) → Body e → Ok (record { args = args; body = e })) → (p : Proc) × (p.args ≡ args) × Read Ok row (from size body) (i + 1) (ps ++ p ∷ [])
+body_read Ok Body args body size h first f ok =
     let e = f.0 in
-    let p : Proc = record { args = get_or left 0 0; body = e } in
-    (p, refl, read_more Ok p (from size (from 1 left)) h (first_word left long ∙ ap (λ s. get_or left 0 0 ∷ s) (f.2.begins ∙ ap (λ s. row_expr e ++ s) (sym (take_rest (from 1 left) size)))) (ok e f.1))
+    let p : Proc = record { args = args; body = e } in
+    (p, refl, read_more Ok p (from size body) h (first ∙ ap (λ s. args ∷ s) (f.2.begins ∙ ap (λ s. row_expr e ++ s) (sym (take_rest body size)))) (ok e f.1))
 
 -- where a procedure is missing, has too many arguments or no right body, the row does not say so many of them
 module _ (Ok Good : Proc → Type 0) {row left : List ℕ} {i n : ℕ} {ps qs : List Proc} (h : Read Ok row left i ps) (more : i < n) (k : Procedures Good n row qs) where
@@ -128,17 +132,6 @@ module _ (Ok : Proc → Type 0) {row left : List ℕ} {i n : ℕ} {ps : List Pro
 
   pub some_over : (qs : List Proc) → eqb (length left) 0 ≡ false → Procedures Ok n row qs → ⊥
   some_over qs e k = eqb-false (length left) 0 e (ap length (last_proc Ok Ok h k all))
-
-pub all_arities : {row left : List ℕ} {i n : ℕ} {ps : List Proc} (arities : List ℕ) (b : Bool) → Read FewArgs row left i ps → i ≡ n → length arities ≡ n → arities_of ps ≡ take i arities → b ≡ eqb (length left) 0 → AritySays n row arities b
-all_arities {ps} arities true h all long are e = (ps, none_over FewArgs h all (sym e), are ∙ take_all _ arities (omega arith))
-all_arities arities false h all long are e = λ qs k. some_over FewArgs h all qs (sym e) k
-
-pub none_right : {P : Type 0} → (P → ⊥) → Decides false P
-none_right f = (λ t. absurd (true≢false (sym t)), λ p. absurd (f p))
-
-pub all_bodies : {row left : List ℕ} {i n : ℕ} {ps : List Proc} (u : SourceUnit) (b : Bool) → Read (BodyRight u) row left i ps → i ≡ n → b ≡ eqb (length left) 0 → Decides b (BodiesRight u n row)
-all_bodies {ps} u true h all e = (λ _. (ps, none_over (BodyRight u) h all (sym e)), λ _. refl)
-all_bodies u false h all e = none_right (λ k. some_over (BodyRight u) h all k.0 (sym e) k.1)
 
 -- a body that is read with the number of arguments in front of it is read with the procedure's
 pub right_at : (u : SourceUnit) (args : ℕ) (p : Proc) → p.args ≡ args → BodyRight u p → Right u args 256 p.body

@@ -2,12 +2,12 @@
 use Rattle.std.proofs.Common.{◌≡◌, ℕ, List, [], ◌∷◌, ◌++◌, Some, None, Option, sym, refl, ap, ◌∙◌}
 use Rattle.std.specs.Option.{option_map}
 use Rattle.std.specs.List.{slice_get}
+use Rattle.std.proofs.lemmas.Option.{same_Some}
 use Rattle.rows.specs.Options.{◌>>=◌}
 use Rattle.rows.specs.Operations.{operations}
 use Rattle.rows.specs.Signs.{op_of, op_sign, row_sign}
 use Rattle.rows.specs.declared.signs.Sign.{Sign}
 use Rattle.rows.specs.declared.signs.Sign.TheVariants.{Number, Argument, Word, Operation, If, Keep, Then, Out, Next, Call}
-use Rattle.rows.proofs.Decided.{some_injective}
 use Rattle.rows.proofs.ExprParts.{sign_of_op, nth_number}
 
 -- a sign that holds the next word
@@ -49,5 +49,5 @@ sign_again (Call c n) xs = refl
 
 pub one_sign : (s t : Sign) (xs ys : List ℕ) → row_sign s ++ xs ≡ row_sign t ++ ys → (s ≡ t) × (xs ≡ ys)
 one_sign s t xs ys e =
-    let p : ◌≡◌ {A = Sign × List ℕ} (s, xs) (t, ys) = some_injective (sym (sign_again s xs) ∙ (ap sign_in e ∙ sign_again t ys)) in
+    let p : ◌≡◌ {A = Sign × List ℕ} (s, xs) (t, ys) = same_Some _ _ (sym (sign_again s xs) ∙ (ap sign_in e ∙ sign_again t ys)) in
     (ap (λ q. q.0) p, ap (λ q. q.1) p)

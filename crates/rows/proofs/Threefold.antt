@@ -1,6 +1,7 @@
 -- Items written as three words each: what is written is read again, and what is read writes the same words.
 use Rattle.std.proofs.Common.{◌≡◌, ℕ, zero, suc, ◌*◌, ◌/◌, ◌≤◌, List, [], ◌∷◌, ◌++◌, map, length, take, sym, refl, ap, ◌∙◌, arith}
 use Rattle.std.proofs.lemmas.List.{length-take-le}
+use Rattle.std.specs.List.{flat_map}
 use Rattle.std.specs.Simd.{first_chunks}
 use Rattle.rows.specs.UnitRows.{row_wants}
 use Rattle.rows.specs.ObjectRows.{row_offers, row_fits}
@@ -56,6 +57,14 @@ chunked_take (suc k) [] long = absurd (omega arith)
 chunked_take (suc k) (p ∷ []) long = absurd (omega arith)
 chunked_take (suc k) (p ∷ q ∷ []) long = absurd (omega arith)
 chunked_take (suc k) (p ∷ q ∷ r ∷ s) long = ap (λ n. first_chunks 3 (suc k) (take n (p ∷ q ∷ r ∷ s))) (thrice_more k) ∙ ap (λ ts. (p ∷ q ∷ r ∷ []) ∷ ts) (chunked_take k s (omega arith))
+
+-- runs of three are the words that they are cut from
+pub flat_runs : (k : ℕ) (s : List ℕ) → 3 * k ≤ length s → flat_map (λ words. words) (first_chunks 3 k s) ≡ take (3 * k) s
+flat_runs zero s long = refl
+flat_runs (suc k) [] long = absurd (omega arith)
+flat_runs (suc k) (p ∷ []) long = absurd (omega arith)
+flat_runs (suc k) (p ∷ q ∷ []) long = absurd (omega arith)
+flat_runs (suc k) (p ∷ q ∷ r ∷ s) long = ap (λ xs. p ∷ q ∷ r ∷ xs) (flat_runs k s (omega arith)) ∙ ap (λ n. take n (p ∷ q ∷ r ∷ s)) (sym (thrice_more k))
 
 -- a part of 3 k words is k runs of three
 pub chunked_part : (k : ℕ) (s part : List ℕ) → 3 * k ≤ length s → part ≡ take (3 * k) s → first_chunks 3 (length part / 3) part ≡ first_chunks 3 k s

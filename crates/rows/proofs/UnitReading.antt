@@ -1,7 +1,7 @@
 -- A unit is read off its row: what the parts of the check say of it together.
-use Rattle.std.proofs.Common.{◌≡◌, ℕ, ◌-◌, ◌≤◌, true, false, ◌&&◌, T, leb, List, [], ◌∷◌, ◌++◌, map, length, take, drop, sym, refl, ap, ◌∙◌, subst, ap₂, arith}
+use Rattle.std.proofs.Common.{◌≡◌, ℕ, ◌≤◌, Bool, true, false, ◌&&◌, T, leb, List, [], ◌∷◌, ◌++◌, map, length, take, drop, sym, refl, ap, ◌∙◌, subst, ap₂, arith}
+use Rattle.std.specs.Bool.{then_some}
 use Rattle.std.specs.List.{AllByRecursion}
-use borrow.Rule.Slice.PartMut.{post_of}
 use Rattle.std.proofs.lemmas.Slice.{drop-append-drop}
 use Rattle.std.proofs.lemmas.List.{append-nil, length-append, length-take-le, take_at, drop_at}
 use Rattle.std.proofs.lemmas.Bool.{le-leb, leb-true, both_ways}
@@ -9,15 +9,14 @@ use Rattle.std.proofs.ByRecursion.{All-weaker}
 use Rattle.rows.specs.Units.{Proc, SourceUnit}
 use Rattle.rows.specs.Formed.{formed, formed_procs, depth}
 use Rattle.rows.specs.UnitRows.{row_wants, row_procs, row_unit, small_wants, small_procs, all_below, UnitRow}
-use Rattle.rows.specs.WantRows.{wants_said}
+use Rattle.rows.specs.ObjectViews.{wants_in}
 use Rattle.rows.specs.Bodies.{outlined}
 use Rattle.rows.specs.UnitViews.{ViewOf}
 use Rattle.rows.specs.UnitReading.{Shown}
-use Rattle.rows.specs.UnitParts.{Cut, Procedures, FewArgs, BodyRight, AritySays, BodiesRight}
+use Rattle.rows.specs.UnitParts.{Cut, Procedures, FewArgs, BodyRight, AritySays, BodiesRight, OpenSays}
 use Rattle.rows.specs.declared.units.UnitView.{UnitView}
 use Rattle.rows.proofs.Decided.{T-true, true_T, T-parts, T-both}
 use Rattle.rows.proofs.OneUnit.{one_wants, one_procs}
-use Rattle.rows.proofs.Arities.{view_wants}
 use Rattle.rows.proofs.Outlines.{outline_right, right_outline}
 
 T-leb : (a b : ℕ) → T (leb a b) → a ≤ b
@@ -55,7 +54,7 @@ one_list ps qs h k = (one_procs ps qs [] [] (h.count ∙ sym k.count) (append-ni
 
 -- the unit that a cut row says, whose procedures are ps
 abbrev pub unit_of : UnitView → List Proc → SourceUnit
-unit_of v ps = record { name = v.name; words = v.words; wants = wants_said v.wants.now; procs = ps; offers = v.offers.now }
+unit_of v ps = record { name = v.name; words = v.words; wants = wants_in v.wants.now; procs = ps; offers = v.offers.now }
 
 -- two rows that end alike in as many words
 same_ends : (xs ys zs ws : List ℕ) → length zs ≡ length ws → xs ++ zs ≡ ys ++ ws → (xs ≡ ys) × (zs ≡ ws)
@@ -70,16 +69,17 @@ module _ (row : List ℕ) (v : UnitView) (cut : Cut row v) where
       let q = e ∙ cut.parts in
       let name : u.name ≡ v.name = cc in
       let words : u.words ≡ v.words = cc in
-      let wants : length u.wants ≡ length (wants_said v.wants.now) = cc in
+      let wants : length u.wants ≡ length (wants_in v.wants.now) = cc in
       let count : length u.procs ≡ v.count = cc in
       let offers : length u.offers ≡ length v.offers.now = cc in
-      let rest : row_wants u.wants ++ (row_procs u.procs ++ u.offers) ≡ v.wants.now ++ (v.procs.now ++ v.offers.now) = cc in
-      let w = one_wants u.wants (wants_said v.wants.now) (row_procs u.procs ++ u.offers) (v.procs.now ++ v.offers.now) wants (rest ∙ ap (λ s. s ++ (v.procs.now ++ v.offers.now)) (sym cut.whole)) in
+      let rest : row_wants u.wants ++ (row_procs u.procs ++ u.offers) ≡ row_wants (wants_in v.wants.now) ++ (v.procs.now ++ v.offers.now) = cc in
+      let w = one_wants u.wants (wants_in v.wants.now) (row_procs u.procs ++ u.offers) (v.procs.now ++ v.offers.now) wants rest in
       let p = same_ends (row_procs u.procs) v.procs.now u.offers v.offers.now offers w.1 in
       record {
         name = sym name;
         words = sym words;
-        wants = sym (ap row_wants w.0 ∙ cut.whole);
+        wants = sym w.0;
+        want_words = sym (ap row_wants w.0 ∙ cut.whole);
         count = sym count;
         procs = sym p.0;
         offers = sym p.1;
@@ -90,13 +90,18 @@ module _ (row : List ℕ) (v : UnitView) (cut : Cut row v) where
   cut_procs Ok u h all = record { count = sym h.count; says = sym h.procs; each = all }
 
   -- where a part of the check fails, the row says no unit
-  pub wants_wrong : small_wants (wants_said v.wants.now) ≡ false → (u : SourceUnit) → UnitRow row u → ⊥
-  wants_wrong e u h = both_ways (small_wants (wants_said v.wants.now)) e (ap small_wants (view_wants v u (cut_view u h.row)) ∙ T-true (small_wants u.wants) h.want_args)
+  pub wants_wrong : small_wants (wants_in v.wants.now) ≡ false → (u : SourceUnit) → UnitRow row u → ⊥
+  wants_wrong e u h = both_ways (small_wants (wants_in v.wants.now)) e (ap small_wants (cut_view u h.row).wants ∙ T-true (small_wants u.wants) h.want_args)
 
   pub offers_wrong : all_below v.count v.offers.now ≡ false → (u : SourceUnit) → UnitRow row u → ⊥
   offers_wrong e u h =
       let w = cut_view u h.row in
       both_ways (all_below v.count v.offers.now) e (ap₂ all_below w.count w.offers ∙ T-true (all_below (length u.procs) u.offers) h.offers)
+
+  -- the test of the offers, of a row whose wants are small
+  pub opened_where : (b : Bool) → true ≡ small_wants (wants_in v.wants.now) → b ≡ all_below v.count v.offers.now → OpenSays row (then_some b v)
+  opened_where true small e = record { cut = cut; wants = sym small; offers = sym e }
+  opened_where false small e = offers_wrong (sym e)
 
   pub arities_wrong : (n : ℕ) (arities : List ℕ) → n ≡ v.count → AritySays n v.procs.now arities false → (u : SourceUnit) → UnitRow row u → ⊥
   arities_wrong n arities all f u h = f u.procs (rw all (cut_procs FewArgs u (cut_view u h.row) (few_of u.procs h.proc_sizes)))
@@ -119,15 +124,15 @@ module _ (row : List ℕ) (v : UnitView) (cut : Cut row v) where
         same = one_list says.0 u.procs few (cut_procs FewArgs u w (few_of u.procs h.proc_sizes))
 
         to_outline : (p : Proc) → BodyRight u p → BodyRight outline p
-        to_outline p r = rw w.words (outline_right u v.wants.now arities (view_wants v u w) (ap (map (λ q. q.args)) (sym same) ∙ says.2) p.args 256 p.body r)
+        to_outline p r = rw w.words (outline_right u v.wants.now arities w.wants (ap (map (λ q. q.args)) (sym same) ∙ says.2) p.args 256 p.body r)
 
-    module _ (qs : List Proc) (right : Procedures (BodyRight outline) m v.procs.now qs) (small : small_wants (wants_said v.wants.now) ≡ true) (below : all_below v.count v.offers.now ≡ true) where
+    module _ (qs : List Proc) (right : Procedures (BodyRight outline) m v.procs.now qs) (small : small_wants (wants_in v.wants.now) ≡ true) (below : all_below v.count v.offers.now ≡ true) where
       bodies : AllByRecursion (BodyRight (unit_of v says.0)) says.0
       bodies = All-weaker (BodyRight outline) (BodyRight (unit_of v says.0)) (λ p r. right_outline (unit_of v says.0) v.wants.now arities refl says.2 p.args 256 p.body r) says.0 (subst (AllByRecursion (BodyRight outline)) (one_list qs says.0 (rw each at right) few) right.each)
 
       pub unit_row : UnitRow row (unit_of v says.0)
       unit_row = record {
-        row = cc (cut.whole, cut.parts, few.says, few.count);
+        row = cc (cut.parts, few.says, few.count);
         short = cut.short;
         words = cut.words;
         wants = cut.wants;
@@ -151,11 +156,8 @@ module _ (row : List ℕ) (v : UnitView) (cut : Cut row v) where
 
 -- the front of the lent words, as the code lends it on, and what is behind it
 module _ (old : List ℕ) (k : ℕ) (few : k ≤ 256) (enough : 256 ≤ length old) where
-  pub lent : length (take (k - 0) old) ≡ k
-  lent = let z : k - 0 ≡ k = omega arith in rw z (length-take-le k old (omega arith))
+  pub lent : length (take k old) ≡ k
+  lent = length-take-le k old (omega arith)
 
-  pub behind_lent : (new : List ℕ) → new ++ post_of 0 (k - 0) old ≡ new ++ drop k old
-  behind_lent new = let z : k - 0 ≡ k = omega arith in rw z
-
-  pub kept_behind : (new : List ℕ) → length new ≡ k → drop 256 (new ++ post_of 0 (k - 0) old) ≡ drop 256 old
-  kept_behind new l = ap (drop 256) (behind_lent new) ∙ drop-append-drop k old new 256 few l
+  pub kept_behind : (new : List ℕ) → length new ≡ k → drop 256 (new ++ drop k old) ≡ drop 256 old
+  kept_behind new l = drop-append-drop k old new 256 few l

@@ -2,7 +2,7 @@
 use Rattle.std.specs.Prelude.{◌≡◌, ℕ, ◌^◌, ◌≤◌, Bool, true, T, List, [], map, nat_lt}
 use Rattle.rows.specs.Units.{Expr, next, Exprs, count, Proc, SourceUnit, arity}
 use Rattle.rows.specs.Formed.{takes, formed, formed_args, depth, depths}
-use Rattle.rows.specs.WantRows.{wants_said}
+use Rattle.rows.specs.ObjectViews.{wants_in}
 use Rattle.rows.specs.declared.signs.Sign.{Sign}
 use Rattle.rows.specs.declared.signs.Sign.TheVariants.{Number, Argument, Word, Operation, If, Keep, Then, Out, Next, Call}
 use Rattle.rows.specs.declared.bodies.Scope.{Scope}
@@ -11,9 +11,9 @@ use Rattle.rows.specs.declared.bodies.Scope.{Scope}
 abbrev pub bodiless : ℕ → Proc
 bodiless n = record { args = n; body = next }
 
--- a unit with so many words, these wants (three words each) and procedures of so many arguments, as far as that says what a body may name
-abbrev pub outlined : ℕ → List ℕ → List ℕ → SourceUnit
-outlined words wants arities = record { name = 0; words = words; wants = wants_said wants; procs = map bodiless arities; offers = [] }
+-- a unit with so many words, the wants that these words say and procedures of so many arguments, as far as that says what a body may name
+abbrev pub outlined : ℕ → List (List ℕ) → List ℕ → SourceUnit
+outlined words wants arities = record { name = 0; words = words; wants = wants_in wants; procs = map bodiless arities; offers = [] }
 
 abbrev pub outline : Scope → SourceUnit
 outline s = outlined s.words s.wants.now s.arities.now

@@ -14,5 +14,5 @@ pub mod UnitReading
 pub mod Objects
 pub mod ObjectRows
 pub mod ObjectViews
-pub mod WantRows
+pub mod Texts
 pub mod ObjectReading

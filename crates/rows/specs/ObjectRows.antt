@@ -1,5 +1,6 @@
 -- Objects as a row of words, one after the other, and their limits.
 use Rattle.std.specs.Prelude.{◌≡◌, ℕ, ◌≤◌, Bool, true, ◌&&◌, ◌||◌, T, List, [], ◌∷◌, ◌++◌, length, nat_le, nat_lt}
+use Rattle.std.specs.List.{list_all}
 use Rattle.rows.specs.UnitRows.{row_wants}
 use Rattle.rows.specs.Objects.{Fit, Offer, Object}
 
@@ -20,8 +21,7 @@ row_objects (o ∷ os) = row_object o ++ row_objects os
 
 -- offers begin in a code of n words
 abbrev pub offers_inside : ℕ → List Offer → Bool
-offers_inside n [] = true
-offers_inside n (o ∷ os) = nat_lt o.at n && offers_inside n os
+offers_inside n os = list_all (λ o. nat_lt o.at n) os
 
 -- fits are of places in a code of n words, of the kinds 0 to 2, and of kind 2 only where one of k wants is named
 abbrev pub fits_inside : ℕ → ℕ → List Fit → Bool

@@ -47,6 +47,12 @@ what zero want = Code
 what (suc zero) want = Words
 what (suc (suc kind)) want = WantKind want
 
+-- the fit of the word at a place that does so; where it names no want, the want's word is 0
+abbrev pub fit_doing : ℕ → Kind → Fit
+fit_doing at Code = record { at = at; kind = 0; want = 0 }
+fit_doing at Words = record { at = at; kind = 1; want = 0 }
+fit_doing at (WantKind want) = record { at = at; kind = 2; want = want }
+
 -- one fit is inside a code of n words and names one of k wants where it has to
 abbrev pub fit_inside : ℕ → ℕ → Fit → Bool
 fit_inside n k f = nat_lt f.at n && (nat_lt f.kind 3 && (nat_lt f.kind 2 || nat_lt f.want k))

@@ -1,7 +1,5 @@
 -- The six operations on words, and their numbers in rows and in code.
-use Rattle.std.specs.Prelude.{ℕ, zero, suc, ◌+◌, ◌-◌, ◌*◌, ◌/◌, ◌%◌, ◌^◌, Bool, true, false, List, [], ◌∷◌, Option, ◌==◌, nat_lt}
-use Rattle.std.specs.Option.{option_map}
-use Rattle.std.specs.List.{slice_get}
+use Rattle.std.specs.Prelude.{ℕ, zero, suc, ◌+◌, ◌-◌, ◌*◌, ◌/◌, ◌%◌, ◌^◌, Bool, true, false, List, [], ◌∷◌, ◌==◌, nat_lt}
 
 pub data Op : Type 0 where
   Add : Op
@@ -40,7 +38,3 @@ apply Mul x y = x * y % 2 ^ 32
 apply Div x y = quotient x y
 apply Less x y = bit (nat_lt x y)
 apply Same x y = bit (x == y)
-
--- by the operation's number, where there is one
-abbrev pub operated : ℕ → ℕ → ℕ → Option ℕ
-operated n x y = option_map (λ o. apply o x y) (slice_get operations n)

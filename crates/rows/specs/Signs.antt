@@ -1,10 +1,12 @@
 -- The sign of an expression: what the expression is, and what stands before its parts in its row.
-use Rattle.std.specs.Prelude.{ℕ, ◌-◌, cond, List, [], ◌∷◌, ◌++◌, Some, None, Option, ◌≢◌, nat_lt}
-use Rattle.rows.specs.Operations.{Op, Add, Sub, Mul, Div, Less, Same, number}
+use Rattle.std.specs.Prelude.{◌≡◌, ℕ, ◌-◌, cond, List, [], ◌∷◌, ◌++◌, Some, None, Ok, Err, Option, Result, ◌≢◌, nat_lt}
+use Rattle.std.specs.List.{slice_get}
+use Rattle.rows.specs.Operations.{Op, Add, Sub, Mul, Div, Less, Same, operations, number}
 use Rattle.rows.specs.Units.{Expr, num, arg, word, op, if, keep, then, out, next, call, Exprs, nil, cons, count}
 use Rattle.rows.specs.RowFronts.{Begins}
-use Rattle.rows.specs.declared.signs.Operation.{Operation as OperationSign}
-use Rattle.rows.specs.declared.signs.Operation.TheVariants as sign
+use Rattle.rows.specs.declared.operations.Operation.{Operation as OperationSign}
+use Rattle.rows.specs.declared.operations.Operation.TheVariants as sign
+use Rattle.rows.specs.declared.operations.UnknownOperation.{UnknownOperation}
 use Rattle.rows.specs.declared.signs.Callee.{Callee}
 use Rattle.rows.specs.declared.signs.Target.{Target}
 use Rattle.rows.specs.declared.signs.Target.TheVariants.{Want, Own}
@@ -27,6 +29,11 @@ op_sign Mul = sign.Mul
 op_sign Div = sign.Div
 op_sign Less = sign.Less
 op_sign Same = sign.Same
+
+-- the operation with a number, or that none has it
+abbrev pub OperationSays : ℕ → Result OperationSign UnknownOperation → Type 0
+OperationSays n (Ok o) = slice_get operations n ≡ Some (op_of o)
+OperationSays n (Err e) = (slice_get operations n ≡ None) × (e.0 ≡ n)
 
 -- what a callee is in a unit with so many wants
 abbrev pub target_of : ℕ → Callee → Target

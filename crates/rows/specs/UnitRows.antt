@@ -1,5 +1,6 @@
 -- A unit as a row of words, and its limits.
 use Rattle.std.specs.Prelude.{◌≡◌, ℕ, ◌≤◌, Bool, true, ◌&&◌, T, List, [], ◌∷◌, ◌++◌, length, nat_le, nat_lt}
+use Rattle.std.specs.List.{list_all}
 use Rattle.rows.specs.Operations.{number}
 use Rattle.rows.specs.Units.{Expr, num, arg, word, op, if, keep, then, out, next, call, Exprs, nil, cons, count, Want, Proc, SourceUnit}
 use Rattle.rows.specs.Formed.{formed_procs, depth}
@@ -34,8 +35,7 @@ abbrev pub row_unit : SourceUnit → List ℕ
 row_unit u = u.name ∷ u.words ∷ length u.wants ∷ length u.procs ∷ length u.offers ∷ (row_wants u.wants ++ (row_procs u.procs ++ u.offers))
 
 abbrev pub small_wants : List Want → Bool
-small_wants [] = true
-small_wants (w ∷ ws) = nat_le w.args 8 && small_wants ws
+small_wants ws = list_all (λ w. nat_le w.args 8) ws
 
 abbrev pub small_procs : List Proc → Bool
 small_procs [] = true
@@ -43,8 +43,7 @@ small_procs (p ∷ ps) = nat_le p.args 8 && (nat_le (depth p.body) 256 && small_
 
 -- each is below n
 abbrev pub all_below : ℕ → List ℕ → Bool
-all_below n [] = true
-all_below n (x ∷ xs) = nat_lt x n && all_below n xs
+all_below n xs = list_all (λ x. nat_lt x n) xs
 
 -- the row s says the unit u, which is within the limits and well formed; how many offers there are is limited by the row's length alone
 pub record UnitRow (s : List ℕ) (u : SourceUnit) : Type 0 where

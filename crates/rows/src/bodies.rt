@@ -5,18 +5,19 @@ ghost use Rattle.rows.specs.UnitRows.{row_expr, row_exprs};
 ghost use Rattle.rows.specs.RowFronts.{FrontSays};
 ghost use Rattle.rows.specs.Bodies.{outline, allowed, Any, Right, RightParts};
 
+use crate::objects::Want;
 use crate::signs::{Callee, Procedure, Sign, Target};
 
 // How deep expressions stand in one another at most.
 pub const MOST_DEPTH: u32 = 256;
 
 // What a body may name: arguments of its procedure, words of its unit, and callees by how many arguments they take.
-#[derive(Clone, Copy, Debug)]
+#[derive(Clone, Copy, PartialEq, Eq, Debug)]
 pub struct Scope<'a> {
     pub args: u32,
     pub words: u32,
-    // the unit's wants, three words each
-    pub wants: &'a [u32],
+    // the unit's wants
+    pub wants: &'a [[u32; 3]],
     // how many arguments each of the unit's own procedures takes
     pub arities: &'a [u32],
 }
@@ -26,8 +27,11 @@ impl Scope<'_> {
     pub fn arity(&self, callee: Callee) -> Option<u32>
         ensures { result ≡ arity (outline self.now) callee.0 }
     {
-        match callee.target(self.wants.len() / 3) {
-            Target::Want(n) => Some(self.wants[3 * n as usize + 2]),
+        match callee.target(self.wants.len()) {
+            Target::Want(n) => self
+                .wants
+                .get(n as usize)
+                .map(|words| Want::from(*words).args),
             Target::Own(Procedure(p)) => self.arities.get(p as usize).copied(),
         }
     }
@@ -39,10 +43,7 @@ impl Scope<'_> {
         match sign {
             Sign::Argument(i) => i < self.args,
             Sign::Word(i) | Sign::Keep(i) => i < self.words,
-            Sign::Call(callee, count) => match self.arity(callee) {
-                Some(args) => args == count,
-                None => false,
-            },
+            Sign::Call(callee, count) => self.arity(callee) == Some(count),
             _ => true,
         }
     }
@@ -52,14 +53,12 @@ impl Scope<'_> {
     pub fn expression(&self, row: &[u32], depth: u32) -> Option<usize>
         ensures { FrontSays row_expr (Right (outline self.now) self.now.args depth) row.now result }
     {
-        if depth == 0 {
-            return None;
-        }
+        let inner = depth.checked_sub(1)?;
         let (sign, size) = Sign::read(row)?;
         if !self.allows(sign) {
             return None;
         }
-        let parts = self.expressions(&row[size..], sign.parts(), depth - 1)?;
+        let parts = self.expressions(&row[size..], sign.parts(), inner)?;
         Some(size + parts)
     }
 
@@ -85,11 +84,12 @@ impl Scope<'_> {
 }
 
 // How many words the expression at the front of a row takes, whatever it names and however deep it is; none where no expression stands there.
+// The compiler measures bodies in the same way, by a table of signs, to be quicker in its one pass; here `Sign::read` alone says what signs there are.
 pub fn skip(row: &[u32]) -> Option<usize>
     ensures { FrontSays row_expr Any row.now result }
 {
     let mut left = row;
-    // how many expressions are still to come, of a word or more each
+    // how many expressions are still to come, of a word or more each: one number, where a tree would need memory
     let mut pending: usize = 1;
     while pending > 0 {
         if pending > left.len() {

@@ -6,3 +6,4 @@ pub mod objects;
 pub mod operations;
 pub mod signs;
 pub mod units;
+pub mod words;

@@ -1,62 +1,19 @@
 // The signs of expressions, read off a row one at a time, and what they name.
 ghost use Rattle.std.specs.Prelude.{◌≡◌, nat_lt};
-ghost use Rattle.std.specs.List.{slice_get};
-ghost use Rattle.std.specs.Option.{option_map};
-ghost use Rattle.rows.specs.Operations.{operations, number};
-ghost use Rattle.rows.specs.Signs.{op_of, target_of, part_count, SignSays};
+ghost use Rattle.rows.specs.Signs.{target_of, part_count, SignSays};
 
-// An operation on two words.
-#[derive(Clone, Copy, PartialEq, Eq, Debug)]
-pub enum Operation {
-    Add,
-    Sub,
-    Mul,
-    Div,
-    Less,
-    Same,
-}
-
-impl Operation {
-    // The operation with this number, where there is one.
-    pub fn from_number(n: u32) -> Option<Operation>
-        ensures { option_map op_of result ≡ slice_get operations n }
-    {
-        match n {
-            0 => Some(Operation::Add),
-            1 => Some(Operation::Sub),
-            2 => Some(Operation::Mul),
-            3 => Some(Operation::Div),
-            4 => Some(Operation::Less),
-            5 => Some(Operation::Same),
-            6..=u32::MAX => None,
-        }
-    }
-
-    // The operation's number in rows and in code.
-    pub fn number(self) -> u32
-        ensures { result ≡ number (op_of self) }
-    {
-        match self {
-            Operation::Add => 0,
-            Operation::Sub => 1,
-            Operation::Mul => 2,
-            Operation::Div => 3,
-            Operation::Less => 4,
-            Operation::Same => 5,
-        }
-    }
-}
+use crate::operations::Operation;
 
 // A callee's number in its unit: first the wants are counted, then the unit's own procedures.
-#[derive(Clone, Copy, PartialEq, Eq, Debug)]
+#[derive(Clone, Copy, PartialEq, Eq, Hash, Debug)]
 pub struct Callee(pub u32);
 
 // A procedure's number among its unit's own.
-#[derive(Clone, Copy, PartialEq, Eq, Debug)]
+#[derive(Clone, Copy, PartialEq, Eq, Hash, Debug)]
 pub struct Procedure(pub u32);
 
 // What a callee is: the want with that number, or a procedure of the unit itself.
-#[derive(Clone, Copy, PartialEq, Eq, Debug)]
+#[derive(Clone, Copy, PartialEq, Eq, Hash, Debug)]
 pub enum Target {
     Want(u32),
     Own(Procedure),
@@ -85,7 +42,7 @@ impl Callee {
 }
 
 // What an expression is, with what stands before its parts in its row; a call says how many arguments it has.
-#[derive(Clone, Copy, PartialEq, Eq, Debug)]
+#[derive(Clone, Copy, PartialEq, Eq, Hash, Debug)]
 pub enum Sign {
     Number(u32),
     Argument(u32),
@@ -108,9 +65,9 @@ impl Sign {
             [0, n, ..] => Some((Sign::Number(*n), 2)),
             [1, i, ..] => Some((Sign::Argument(*i), 2)),
             [2, i, ..] => Some((Sign::Word(*i), 2)),
-            [3, o, ..] => match Operation::from_number(*o) {
-                Some(operation) => Some((Sign::Operation(operation), 2)),
-                None => None,
+            [3, o, ..] => {
+                let operation = Operation::try_from(*o).ok()?;
+                Some((Sign::Operation(operation), 2))
             },
             [4, ..] => Some((Sign::If, 1)),
             [5, i, ..] => Some((Sign::Keep(*i), 2)),

@@ -9,17 +9,23 @@ use Rattle.rows.proofs.ObjectLists.{one_list}
 use Rattle.machine.specs.Machine.{Machine, begin}
 use Rattle.machine.specs.Instructions.{steps}
 use Rattle.machine.specs.declared.Ran.{Ran}
-use Rattle.machine.specs.declared.Ran.TheVariants.{Done, NoCalls, NoRoom, Wild, More, OutFull, Small}
+use Rattle.machine.specs.declared.NotRun.{NotRun}
+use Rattle.machine.specs.declared.NotRun.TheVariants.{OutFull, Small}
+use Rattle.machine.specs.declared.ending.Status.{Status}
+use Rattle.machine.specs.declared.ending.Status.TheVariants.{Running, Done, NoCalls, NoRoom, Wild}
+use Rattle.machine.specs.Registers.{halted_as}
 use Rattle.machine.specs.Says.{Stands, RanPost}
 use Rattle.linker.specs.Linking.{link, all_words, twice}
 use Rattle.linker.specs.Says.{LinkedPost}
-use Rattle.linker.specs.declared.Linked.TheVariants as linked
-use Rattle.semantics.specs.declared.linked.NotLinked.{NotLinked}
-use Rattle.semantics.specs.declared.linked.NotLinked.TheVariants.{NoObjects, Twice, Missing, NoSpace}
+use Rattle.linker.specs.declared.Image.{Image}
+use Rattle.linker.specs.declared.NotLinked.{NotLinked}
+use Rattle.linker.specs.declared.NotLinked.TheVariants.{NoObjects, Twice, Missing, NoSpace}
+use Rattle.semantics.specs.declared.linked.RunError.{RunError}
+use Rattle.semantics.specs.declared.linked.RunError.TheVariants.{Link}
 use Rattle.semantics.specs.Runs.{source}
 use Rattle.semantics.specs.Whole.{Behaviour, done, without_calls, without_room, FitTogether, behaviour, halted_behaviour, machine_behaviour}
 use Rattle.semantics.specs.Theorems.{ObjectsOf}
-use Rattle.semantics.specs.RunLinked.{Inputs, RanImage, Refused, refusal, RunSays, Ended, RanAsUnits, AsUnits, Promised, EnoughSteps, RunLinkedPost}
+use Rattle.semantics.specs.RunLinked.{Inputs, ran_answer, RanImage, Refused, RunSays, Ended, StandsAsUnits, RanAsUnits, AsUnits, Promised, EnoughSteps, RunLinkedPost}
 use Rattle.semantics.proofs.Endings.{begins, halted_so, runs_no_more}
 use Rattle.semantics.proofs.Sizes.{image_short}
 use Rattle.semantics.proofs.Linkable.{links}
@@ -45,14 +51,17 @@ module _ (x : Inputs) (os : List Object) (image : List ℕ) (n : ℕ) (b : Behav
       so : machine_behaviour m ≡ Some b
       so = halted_so image (runs x image (all_words os) 0) n b ends x.steps h stands.halts
 
-  pub ran_as_units : (o : List ℕ) (r : Ran) → RanPost image (all_words os) x.room x.tape x.calls x.steps x.out o x.work r → RanAsUnits x os b o r
-  ran_as_units o (Done k) post = ended done 0 (λ ws. refl) o k post.says
-  ran_as_units o (NoCalls k) post = ended without_calls 1 (λ ws. refl) o k post.says
-  ran_as_units o (NoRoom k) post = ended without_room 2 (λ ws. refl) o k post.says
-  ran_as_units o (Wild k) post = absurd (none-some b (sym (ap (λ g. halted_behaviour g m.outs) post.says.halts) ∙ halted_so image (runs x image (all_words os) 0) n b ends x.steps 3 post.says.halts))
-  ran_as_units o (More k) post = (m.outs, begins image (runs x image (all_words os) 0) n b ends x.steps, record { counts = post.says.counts; holds = post.says.holds; rest = post.says.rest })
-  ran_as_units o OutFull post = let rest = begins image (runs x image (all_words os) 0) n b ends x.steps in omega (arith, post.says, ap length rest.1, length-append m.outs rest.0)
-  ran_as_units o Small post = post.small.1 refl
+  stands_as_units : (o : List ℕ) (status : Status) (k : ℕ) → Stands m (halted_as status) x.out o k → StandsAsUnits x b o status k
+  stands_as_units o Done k stands = ended done 0 (λ ws. refl) o k stands
+  stands_as_units o NoCalls k stands = ended without_calls 1 (λ ws. refl) o k stands
+  stands_as_units o NoRoom k stands = ended without_room 2 (λ ws. refl) o k stands
+  stands_as_units o Wild k stands = absurd (none-some b (sym (ap (λ g. halted_behaviour g m.outs) stands.halts) ∙ halted_so image (runs x image (all_words os) 0) n b ends x.steps 3 stands.halts))
+  stands_as_units o Running k stands = (m.outs, begins image (runs x image (all_words os) 0) n b ends x.steps, record { counts = stands.counts; holds = stands.holds; rest = stands.rest })
+
+  pub ran_as_units : (o : List ℕ) (r : Result Ran NotRun) → RanPost image (all_words os) x.room x.tape x.calls x.steps x.out o x.work r → RanAsUnits x os b o r
+  ran_as_units o (Ok r) post = stands_as_units o r.status r.put post.says
+  ran_as_units o (Err OutFull) post = let rest = begins image (runs x image (all_words os) 0) n b ends x.steps in omega (arith, post.says, ap length rest.1, length-append m.outs rest.0)
+  ran_as_units o (Err Small) post = post.small.1 refl
 
 -- objects of units that fit together
 module _ (us : List SourceUnit) (os : List Object) (objects : ObjectsOf us os) (fit : FitTogether us) where
@@ -64,16 +73,22 @@ module _ (us : List SourceUnit) (os : List Object) (objects : ObjectsOf us os) (
       (k.0, k.3 ∙ sym k.2 ∙ is)
 
   -- so where they were linked and run, the machine's answer is what the units do
-  run_as_units : (x : Inputs) (i o : List ℕ) (r : Ran) → x.room < 2 ^ 32 → ObjectRows x.objects os → RanImage x i o r →
-      (b : Behaviour) → behaviour (source us x.room x.tape x.calls) ≡ Some b → AsUnits x os b o (Ok r)
+  run_as_units : (x : Inputs) (i o : List ℕ) (r : Result Ran NotRun) → x.room < 2 ^ 32 → ObjectRows x.objects os → RanImage x i o r →
+      (b : Behaviour) → behaviour (source us x.room x.tape x.calls) ≡ Some b → all_words os + x.room ≤ 2 ^ 32 → RanAsUnits x os b o r
   run_as_units x i o r small rows ran b is fits =
       let same = one_list x.objects ran.links.objects os ran.links.rows rows in
       let k = runs_to_end x ran.links.image rows (ap link (sym same) ∙ ran.links.links) small fits b is in
       ran_as_units x os ran.links.image k.0 b k.1 o r (rw (ran.links.holds, ran.links.words, same) at ran.ran)
 
+  -- so is the whole answer
+  pub answer_as_units : (x : Inputs) (i o : List ℕ) (r : Result Ran NotRun) → x.room < 2 ^ 32 → ObjectRows x.objects os → RanImage x i o r →
+      (b : Behaviour) → behaviour (source us x.room x.tape x.calls) ≡ Some b → AsUnits x os b o (ran_answer r)
+  answer_as_units x i o (Ok r) small rows ran b is = run_as_units x i o (Ok r) small rows ran b is
+  answer_as_units x i o (Err e) small rows ran b is = run_as_units x i o (Err e) small rows ran b is
+
   -- and they are not refused, but for want of space
   not_refused : (x : Inputs) (i o : List ℕ) (e : NotLinked) → ObjectRows x.objects os → Refused x i o e → (e ≡ NoSpace → length x.image < 4 + length x.objects) →
-      (b : Behaviour) → AsUnits x os b o (Err e)
+      (b : Behaviour) → AsUnits x os b o (Err (Link e))
   not_refused x i o NoObjects rows refused space b = refused.links.none os rows
   not_refused x i o Twice rows refused space b =
       let same = one_list x.objects refused.links.objects os refused.links.rows rows in
@@ -93,31 +108,37 @@ enough_steps s us os rows objects fit room calls tape small fits =
           rw (ran.links.holds ∙ same_Some _ _ (sym ran.links.links ∙ ap link same ∙ l.1), ran.links.words, same) at ran.ran.says.halts),
     )
 
-refused_space : (e : NotLinked) → refusal e ≡ linked.NoSpace → e ≡ NoSpace
-refused_space NoObjects is = let z : ◌≡◌ {A = ℕ} 0 1 = cc in absurd (omega arith)
-refused_space Twice is = let z : ◌≡◌ {A = ℕ} 0 1 = cc in absurd (omega arith)
-refused_space Missing is = let z : ◌≡◌ {A = ℕ} 0 1 = cc in absurd (omega arith)
-refused_space NoSpace is = refl
-
-post : (x : Inputs) (i o : List ℕ) (r : Result Ran NotLinked) → RunSays x i o r → ((length x.image < 4 + length x.objects) ↔ (r ≡ Err NoSpace)) → Promised x o r → RunLinkedPost x i o r
+post : (x : Inputs) (i o : List ℕ) (r : Result Ran RunError) → RunSays x i o r → ((length x.image < 4 + length x.objects) ↔ (r ≡ Err (Link NoSpace))) → Promised x o r → RunLinkedPost x i o r
 post x i o r says space promise = record { says = says; space = space; promise = promise; enough_steps = enough_steps; demands = demands; ends = programs_end; budgets = budgets; company = company }
 
-pub post_run : (x : Inputs) (i o : List ℕ) (size words : ℕ) (r : Ran) → x.room < 2 ^ 32 → LinkedPost x.objects x.image i (linked.Image size words) →
-    RanPost (take size i) words x.room x.tape x.calls x.steps x.out o x.work r → RunLinkedPost x i o (Ok r)
-post_run x i o size words r small linked ran = post x i o (Ok r) says
-    (λ few. let z : ◌≡◌ {A = ℕ} 0 1 = cc (linked.space.0 few) in absurd (omega arith), λ e. let z : ◌≡◌ {A = ℕ} 0 1 = cc in absurd (omega arith))
-    (λ us os rows objects fit. let b = programs_end us x.room x.calls x.tape fit in (b.0, b.1, run_as_units us os objects fit x i o r small rows says b.0 b.1))
+ran_says : (x : Inputs) (i o : List ℕ) (r : Result Ran NotRun) → RanImage x i o r → RunSays x i o (ran_answer r)
+ran_says x i o (Ok r) ran = ran
+ran_says x i o (Err e) ran = ran
+
+-- what was run had space
+not_short : (r : Result Ran NotRun) → ran_answer r ≡ Err (Link NoSpace) → ⊥
+not_short (Ok r) is = cc
+not_short (Err e) is = cc
+
+pub post_run : (x : Inputs) (i o : List ℕ) (size words : ℕ) (r : Result Ran NotRun) → x.room < 2 ^ 32 → LinkedPost x.objects x.image i (Ok (record { size = size; words = words })) →
+    RanPost (take size i) words x.room x.tape x.calls x.steps x.out o x.work r → RunLinkedPost x i o (ran_answer r)
+post_run x i o size words r small linked ran = post x i o (ran_answer r) (ran_says x i o r says)
+    (λ few. cc (linked.space.0 few), λ e. absurd (not_short r e))
+    (λ us os rows objects fit. let b = programs_end us x.room x.calls x.tape fit in (b.0, b.1, answer_as_units us os objects fit x i o r small rows says b.0 b.1))
   where
     says : RanImage x i o r
     says = record { size = size; words = words; links = linked.says; ran = ran }
 
-pub post_refusal : (x : Inputs) (i : List ℕ) (e : NotLinked) → LinkedPost x.objects x.image i (refusal e) → RunLinkedPost x i x.out (Err e)
-post_refusal x i e linked = post x i x.out (Err e) says
-    (λ few. ap Err (refused_space e (linked.space.0 few)), λ is. linked.space.1 (ap refusal (same_err is)))
-    (λ us os rows objects fit. let b = programs_end us x.room x.calls x.tape fit in (b.0, b.1, not_refused us os objects fit x i x.out e rows says (λ is. linked.space.1 (ap refusal is)) b.0))
+pub post_refusal : (x : Inputs) (i : List ℕ) (e : NotLinked) → LinkedPost x.objects x.image i (Err e) → RunLinkedPost x i x.out (Err (Link e))
+post_refusal x i e linked = post x i x.out (Err (Link e)) says
+    (λ few. ap (λ k. Err (Link k)) (same_err (linked.space.0 few)), λ is. linked.space.1 (ap Err (same_error is)))
+    (λ us os rows objects fit. let b = programs_end us x.room x.calls x.tape fit in (b.0, b.1, not_refused us os objects fit x i x.out e rows says (λ is. linked.space.1 (ap Err is)) b.0))
   where
     says : Refused x i x.out e
     says = record { links = linked.says; kept = refl }
 
-    same_err : ◌≡◌ {A = Result Ran NotLinked} (Err e) (Err NoSpace) → e ≡ NoSpace
+    same_err : ◌≡◌ {A = Result Image NotLinked} (Err e) (Err NoSpace) → e ≡ NoSpace
     same_err is = cc
+
+    same_error : ◌≡◌ {A = Result Ran RunError} (Err (Link e)) (Err (Link NoSpace)) → e ≡ NoSpace
+    same_error is = cc

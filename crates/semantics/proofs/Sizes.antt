@@ -1,9 +1,10 @@
 -- How large what is linked can be: the limits of a row of objects bound its image and the words of its units.
-use Rattle.std.proofs.Common.{◌≡◌, ℕ, ◌+◌, ◌*◌, ◌^◌, ◌<◌, ◌≤◌, T, leb, List, [], ◌∷◌, length, Some, sym, refl, ap, ◌∙◌, arith, length-append, length-take}
+use Rattle.std.proofs.Common.{◌≡◌, ℕ, ◌+◌, ◌*◌, ◌^◌, ◌<◌, ◌≤◌, T, leb, List, [], ◌∷◌, length, Some, sym, refl, ap, ◌∙◌, arith, length-append}
 use Rattle.std.proofs.lemmas.Bool.{leb-true}
+use Rattle.std.proofs.lemmas.Option.{same_Some}
 use Rattle.rows.specs.Objects.{Object}
 use Rattle.rows.specs.ObjectRows.{sound, all_sound, ObjectRows}
-use Rattle.rows.proofs.Decided.{some_injective, bind_some, T-true, T-parts}
+use Rattle.rows.proofs.Decided.{bind_some, T-true, T-parts}
 use Rattle.linker.specs.Linking.{Laid, lay, places, fit_all, codes, link, all_words}
 use Rattle.linker.specs.Tables.{all_code}
 use Rattle.linker.specs.Says.{LinkedImage}
@@ -31,11 +32,11 @@ code_words-lay (o ∷ os) c w = ap (λ n. length o.code + n) (code_words-lay os 
 -- fitting changes no code's length
 length-codes : (all ls : List Laid) (c : List ℕ) → codes all ls ≡ Some c → length c ≡ code_words ls
 unfolding code_words
-length-codes all [] c e = ap length (sym (some_injective e))
+length-codes all [] c e = ap length (sym (same_Some _ _ e))
 length-codes all (l ∷ ls) c e =
     let p = bind_some (places all l.object.wants) _ c e in
     let q = bind_some (codes all ls) _ c p.2 in
-    ap length (sym (some_injective q.2)) ∙ length-append (fit_all l p.0 l.object.fits l.object.code) q.0
+    ap length (sym (same_Some _ _ q.2)) ∙ length-append (fit_all l p.0 l.object.fits l.object.code) q.0
     ∙ omega (arith, length-fit_all l p.0 l.object.fits l.object.code, length-codes all ls q.0 q.1)
 
 image_length : (os : List Object) (image : List ℕ) → ImageOf os image → length image ≡ 4 + all_code os
@@ -46,6 +47,3 @@ image_short s os image rows linked = omega (arith, image_length os image (image_
 
 pub words_small : (s i i' : List ℕ) (n w : ℕ) → LinkedImage s i i' n w → w < 2 ^ 32
 words_small s i i' n w h = omega (arith, h.words, words_bound h.objects h.rows.inside, h.rows.few)
-
-pub image_inside : (s i i' : List ℕ) (n w : ℕ) → LinkedImage s i i' n w → n ≤ length i'
-image_inside s i i' n w h = omega (arith, h.size, ap length h.holds, length-take n i')

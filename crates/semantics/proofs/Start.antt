@@ -51,9 +51,6 @@ called e w room tape calls = record { pc = e; fp = w; sp = w + 2; memory = opene
 abbrev pub outermost : ℕ → CallSite
 outermost w = record { base = w; back = 2; fp = w % 2 ^ 32 }
 
-calls_entry : (e : ℕ) (code : List ℕ) (w room : ℕ) (tape : List ℕ) (calls : ℕ) → step (8 ∷ e ∷ 0 ∷ 1 ∷ code) (begin w room tape calls) ≡ called e w room tape calls
-calls_entry e code w room tape calls = refl
-
 halts_done : (e : ℕ) (code : List ℕ) (m : Machine) → m.pc ≡ 2 → m.halted ≡ 0 → machine_behaviour (step (8 ∷ e ∷ 0 ∷ 1 ∷ code) m) ≡ Some (done m.outs)
 halts_done e code m pc running = rw (running, pc)
 

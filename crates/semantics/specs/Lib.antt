@@ -8,6 +8,7 @@ pub mod Ends
 pub mod Budgets
 pub mod Company
 pub mod Theorems
+pub mod Texts
 pub mod RunLinked
 pub mod Smallest
 pub mod Wrong

@@ -8,7 +8,7 @@ pub mod promise;
 
 ghost use Rattle.semantics.specs.Cases.{WorkedCases, WorkedFrames};
 
-pub use linked::run_linked;
+pub use linked::{NotLinked, RunError, run_linked};
 
 // The table of worked cases holds of the definitions.
 pub fn worked_cases()

@@ -1,57 +1,59 @@
 // Objects linked and run in one call, with the promise from end to end.
-ghost use Rattle.std.specs.Prelude.{◌≤◌, length, take};
-ghost use Rattle.linker.specs.Says.{LinkedPost};
-ghost use Rattle.machine.specs.Says.{RanPost};
-ghost use Rattle.semantics.specs.RunLinked.{answer, RunLinkedPost};
+ghost use Rattle.std.specs.Prelude.{◌≡◌, length};
+ghost use Rattle.semantics.specs.declared.linked.RunError.TheVariants.{Link, Run};
+ghost use Rattle.semantics.specs.RunLinked.{RunLinkedPost};
 
-use linker::{Linked, link};
-use machine::{Ran, go};
+// Lent on, so that who calls `run_linked` needs not name the linker.
+pub use linker::NotLinked;
+use linker::{Image, link};
+use machine::{NotRun, Ran, go};
+use std::error::Error;
+use std::fmt;
 
-// Why objects were not linked, as the linker says: a row that is no list of objects, a name that two objects have, a want that isn't met or no
-// procedure 0 to begin with, or too few words for an image.
+// Why there was no run to its end: the objects were not linked, or too few words were lent to the machine.
 #[derive(Clone, Copy, PartialEq, Eq, Debug)]
-pub enum NotLinked {
-    NoObjects,
-    Twice,
-    Missing,
-    NoSpace,
+pub enum RunError {
+    Link(NotLinked),
+    Run(NotRun),
 }
 
-// Links the objects of a row: how many words the image has, which stands first in `image`, and how many the units have; or why there is no image.
-fn link_objects(objects: &[u32], image: &mut [u32]) -> Result<(usize, u32), NotLinked>
-    ensures { LinkedPost objects.now image.old image.new (answer result) }
-{
-    match link(objects, image) {
-        Linked::Image(size, words) => Ok((size, words as u32)),
-        Linked::NoObjects => Err(NotLinked::NoObjects),
-        Linked::Twice => Err(NotLinked::Twice),
-        Linked::Missing => Err(NotLinked::Missing),
-        Linked::NoSpace => Err(NotLinked::NoSpace),
+impl From<NotLinked> for RunError {
+    ghost from_gives = { λ e r. r ≡ Link e };
+
+    fn from(e: NotLinked) -> RunError {
+        RunError::Link(e)
     }
 }
 
-// Runs the image that is the first `size` words of `image`, as the machine does.
-fn run_image(
-    image: &[u32],
-    size: usize,
-    words: u32,
-    room: u32,
-    tape: &[u32],
-    calls: u32,
-    steps: u32,
-    out: &mut [u32],
-    work: &mut [u32],
-) -> Ran
-    requires { size ≤ length image.now }
-    ensures { RanPost (take size image.now) words room tape.now calls steps out.old out.new (length work.old) result }
-{
-    let code = &image[0..size];
-    go(code, words, room, tape, calls, steps, out, work)
+impl From<NotRun> for RunError {
+    ghost from_gives = { λ e r. r ≡ Run e };
+
+    fn from(e: NotRun) -> RunError {
+        RunError::Run(e)
+    }
 }
+
+// By hand: a derived text has no contract.
+impl fmt::Display for RunError {
+    ghost use Rattle.std.specs.Prelude.{Some};
+    ghost use Rattle.semantics.specs.Texts.{run_error_text};
+
+    ghost output = { λ e. Some (run_error_text e) };
+
+    fn fmt<W: fmt::Write>(&self, f: &mut fmt::Formatter<W>) -> fmt::Result {
+        match self {
+            RunError::Link(refusal) => write!(f, "{refusal}"),
+            RunError::Run(refusal) => write!(f, "{refusal}"),
+        }
+    }
+}
+
+impl Error for RunError {}
 
 // Links the objects of a row and runs their image, which stands first in `image`, with this room, tape and number of calls, for so many steps.
 // What is put out stands first in `out`, and the rest of both stays; where it does not fit in `out`, and in `work`, anything may be left.
 // Objects of units that fit together do what the units do.
+// Room, calls and steps stay plain parameters, as in machine's `go`: the signatures of both are fixed for the programs of others that call them.
 pub fn run_linked(
     objects: &[u32],
     room: u32,
@@ -61,10 +63,19 @@ pub fn run_linked(
     image: &mut [u32],
     out: &mut [u32],
     work: &mut [u32],
-) -> Result<Ran, NotLinked>
+) -> Result<Ran, RunError>
     ensures { RunLinkedPost (record { objects = objects.entry.now; room = room; tape = tape.now; calls = calls; steps = steps; image = image.old; out = out.old; work = length work.old }) image.new out.new result }
 {
-    let (size, words) = link_objects(objects, image)?;
-    let ran = run_image(image, size, words, room, tape, calls, steps, out, work);
+    let Image { size, words } = link(objects, image)?;
+    let ran = go(
+        &image[..size],
+        words as u32,
+        room,
+        tape,
+        calls,
+        steps,
+        out,
+        work,
+    )?;
     Ok(ran)
 }

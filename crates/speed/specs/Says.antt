@@ -1,31 +1,29 @@
 -- What the exported calls promise: an answer of the library's call, told by a number.
-use Rattle.std.specs.Prelude.{◌≡◌, List, ℕ}
+use Rattle.std.specs.Prelude.{◌≡◌, List, ℕ, Ok, Err, Result}
 use Rattle.linker.specs.Says.{LinkedPost}
-use Rattle.linker.specs.declared.Linked.{Linked}
-use Rattle.linker.specs.declared.Linked.TheVariants.{Image, NoObjects, Twice, Missing, NoSpace}
+use Rattle.linker.specs.declared.Image.{Image}
+use Rattle.linker.specs.declared.NotLinked.{NotLinked}
+use Rattle.linker.specs.declared.NotLinked.TheVariants.{NoObjects, Twice, Missing, NoSpace}
 use Rattle.compiler.specs.Says.{CompiledPost}
-use Rattle.compiler.specs.declared.Compiled.{Compiled}
-use Rattle.compiler.specs.declared.Compiled.TheVariants.{Object, NoUnit, Short}
+use Rattle.rows.specs.declared.units.Refusal.{Refusal}
+use Rattle.rows.specs.declared.units.Refusal.TheVariants.{NoUnit, Short}
 
 -- how many words an answer's image has; a refusal has none, and no image is so short
-abbrev pub image_length : Linked → ℕ
-image_length (Image n w) = n
-image_length NoObjects = 0
-image_length Twice = 0
-image_length Missing = 0
-image_length NoSpace = 0
+abbrev pub image_length : Result Image NotLinked → ℕ
+image_length (Ok i) = i.size
+image_length (Err e) = 0
 
 -- an answer's number
-abbrev pub answer_number : Linked → ℕ
-answer_number (Image n w) = 0
-answer_number NoSpace = 1
-answer_number NoObjects = 2
-answer_number Twice = 3
-answer_number Missing = 4
+abbrev pub answer_number : Result Image NotLinked → ℕ
+answer_number (Ok i) = 0
+answer_number (Err NoSpace) = 1
+answer_number (Err NoObjects) = 2
+answer_number (Err Twice) = 3
+answer_number (Err Missing) = 4
 
 -- s: the row of objects; o and o': the image's words before and after. `link` gives an answer that `tells` tells by the number n
-pub record Told (tells : Linked → ℕ) (s o o' : List ℕ) (n : ℕ) : Type 0 where
-  pub answer : Linked
+pub record Told (tells : Result Image NotLinked → ℕ) (s o o' : List ℕ) (n : ℕ) : Type 0 where
+  pub answer : Result Image NotLinked
   pub linked : LinkedPost s o o' answer
   pub told : n ≡ tells answer
 
@@ -36,20 +34,19 @@ abbrev pub LinkAnswer : List ℕ → List ℕ → List ℕ → ℕ → Type 0
 LinkAnswer = Told answer_number
 
 -- how many words an answer's object has; a refusal has none, and no object is so short
-abbrev pub object_length : Compiled → ℕ
-object_length (Object n) = n
-object_length NoUnit = 0
-object_length Short = 0
+abbrev pub object_length : Result ℕ Refusal → ℕ
+object_length (Ok n) = n
+object_length (Err e) = 0
 
-abbrev pub compiled_number : Compiled → ℕ
-compiled_number (Object n) = 0
-compiled_number Short = 1
-compiled_number NoUnit = 2
+abbrev pub compiled_number : Result ℕ Refusal → ℕ
+compiled_number (Ok n) = 0
+compiled_number (Err Short) = 1
+compiled_number (Err NoUnit) = 2
 
 -- s: the unit's row; o and o': the object's words before and after; w: how many work words there are.
 -- `compile` gives an answer that `tells` tells by the number n
-pub record CompileTold (tells : Compiled → ℕ) (s o o' : List ℕ) (w n : ℕ) : Type 0 where
-  pub answer : Compiled
+pub record CompileTold (tells : Result ℕ Refusal → ℕ) (s o o' : List ℕ) (w n : ℕ) : Type 0 where
+  pub answer : Result ℕ Refusal
   pub compiled : CompiledPost s o o' w answer
   pub told : n ≡ tells answer
 

@@ -1,43 +1,34 @@
 // Why a unit could not be compiled, in a line for the user.
+ghost use Rattle.std.specs.Prelude.{◌≡◌};
+
 use decimal::input::InputError;
+use rows::units::Refusal;
 use std::alloc::AllocError;
-use std::{fmt, io};
+use std::io;
+use thiserror::Error;
 
-#[derive(Drop)]
+#[derive(Debug, Drop, Error)]
 pub enum Failure {
+    #[error("'{0}' is not an option, and the unit is read from standard input; --help says how")]
     Unknown(String),
-    BadUnit(InputError),
-    NoUnit,
-    // does not come about: as many words are lent as the unit asks for
-    Short,
-    NoOutput(io::Error),
-    NoMemory,
+    #[error(transparent)]
+    BadUnit(#[from] InputError),
+    // that too few words are lent does not come about: they are as many as the unit asks for
+    #[error(transparent)]
+    Refused(Refusal),
+    #[error(transparent)]
+    NoOutput(#[from] io::Error),
+    #[error("out of memory")]
+    NoMemory(#[from] AllocError),
 }
 
-impl From<io::Error> for Failure {
-    fn from(e: io::Error) -> Failure {
-        Failure::NoOutput(e)
-    }
-}
+// By hand, since the derived conversions say nothing of the answer.
+impl From<Refusal> for Failure {
+    ghost use Rattle.unitc.specs.declared.failure.Failure.{Failure};
 
-impl From<AllocError> for Failure {
-    fn from(_e: AllocError) -> Failure {
-        Failure::NoMemory
-    }
-}
+    ghost from_gives = { λ refusal failure. failure ≡ Failure.Refused refusal };
 
-impl fmt::Display for Failure {
-    fn fmt<W: fmt::Write>(&self, f: &mut fmt::Formatter<W>) -> fmt::Result {
-        match self {
-            Failure::Unknown(arg) => write!(
-                f,
-                "'{arg}' is not an option, and the unit is read from standard input; --help says how"
-            ),
-            Failure::BadUnit(error) => write!(f, "{error}"),
-            Failure::NoUnit => write!(f, "no unit"),
-            Failure::Short => write!(f, "short"),
-            Failure::NoOutput(error) => write!(f, "{error}"),
-            Failure::NoMemory => write!(f, "out of memory"),
-        }
+    fn from(refusal: Refusal) -> Failure {
+        Failure::Refused(refusal)
     }
 }

@@ -1,10 +1,7 @@
 // Compiles a unit's row, given in decimal on standard input, and prints the row of its object.
 #![tactic(auto)]
 
-ghost use Rattle.std.specs.Prelude.{◌≡◌};
-ghost use Rattle.unitc.specs.Outcomes.{outcome};
-
-use compiler::{Compiled, compile};
+use compiler::compile;
 use decimal::input::read_words;
 use decimal::output::write_line;
 use std::io::Write;
@@ -17,6 +14,16 @@ use crate::failure::Failure;
 
 // The most words of a unit's row: with those, what `compile` is lent has less than 4 MiB.
 const UNIT_WORDS: usize = 21_200;
+
+// What `compile` asks to be lent for an object, and so many words more for each word of the unit's row.
+const OBJECT_WORDS: usize = 256;
+
+const OBJECT_WORDS_EACH: usize = 32;
+
+// What it asks to be lent to work with, and so many words more for each word of the row.
+const WORK_WORDS: usize = 4096;
+
+const WORK_WORDS_EACH: usize = 16;
 
 const USAGE: &str = "usage: unitc < UNIT > OBJECT
 
@@ -38,6 +45,7 @@ What it refuses, and what to do:
   unitc: more than the 21200 numbers that there is room for
       Cut the unit in two, of which one wants what the other offers.";
 
+// As in unitrun, under another name: a crate of what both share would be longer than these lines.
 fn main(rt: HostRuntime) -> ExitCode {
     match run(&rt) {
         Ok(()) => ExitCode::SUCCESS,
@@ -49,7 +57,7 @@ fn main(rt: HostRuntime) -> ExitCode {
 }
 
 // What the line asks for.
-#[derive(Clone, Copy)]
+#[derive(Clone, Copy, PartialEq, Eq, Debug)]
 enum Command {
     Compile,
     Help,
@@ -67,11 +75,11 @@ fn run(rt: &HostRuntime) -> Result<(), Failure> {
 fn asked(rt: &HostRuntime) -> Result<Command, Failure> {
     let mut command = Command::Compile;
     for arg in env::args(rt)?.skip(1) {
-        match arg.as_str() {
-            "--help" => command = Command::Help,
-            "--version" => command = Command::Version,
+        command = match arg.as_str() {
+            "--help" => Command::Help,
+            "--version" => Command::Version,
             _ => return Err(Failure::Unknown(arg)),
-        }
+        };
     }
     Ok(command)
 }
@@ -79,33 +87,12 @@ fn asked(rt: &HostRuntime) -> Result<Command, Failure> {
 // Compiles the unit on standard input and prints its object.
 fn compile_input(rt: &HostRuntime) -> Result<(), Failure> {
     let mut unit = Vec::with_capacity(rt.alloc(), UNIT_WORDS)?;
-    if let Err(error) = read_words(&mut rt.stdin(), &mut unit, UNIT_WORDS) {
-        return Err(Failure::BadUnit(error));
-    }
-    let size = unit.len().min(UNIT_WORDS);
-    let mut object = vec![in rt.alloc(); 0u32; 256 + 32 * size]?;
-    let mut work = vec![in rt.alloc(); 0u32; 4096 + 16 * size]?;
-    let compiled = compile(unit.as_slice(), object.as_mut_slice(), work.as_mut_slice());
-    let n = object_size(compiled)?;
-    print_object(rt, object.as_slice(), n)
-}
-
-// How many words the object has, or why there is none.
-fn object_size(compiled: Compiled) -> Result<usize, Failure>
-    ensures { result ≡ outcome compiled }
-{
-    match compiled {
-        Compiled::Object(n) => Ok(n),
-        Compiled::NoUnit => Err(Failure::NoUnit),
-        Compiled::Short => Err(Failure::Short),
-    }
-}
-
-// Prints the first n words.
-fn print_object(rt: &HostRuntime, object: &[u32], n: usize) -> Result<(), Failure> {
+    read_words(&mut rt.stdin(), &mut unit, UNIT_WORDS)?;
+    let mut object = vec![in rt.alloc(); 0; OBJECT_WORDS + OBJECT_WORDS_EACH * unit.len()]?;
+    let mut work = vec![in rt.alloc(); 0; WORK_WORDS + WORK_WORDS_EACH * unit.len()]?;
+    let size = compile(&unit, &mut object, &mut work)?;
+    object.truncate(size);
     let mut to = io::BufWriter::new(rt.alloc(), rt.stdout())?;
-    let size = n.min(object.len());
-    write_line(&mut to, &object[0..size])?;
-    to.flush()?;
-    Ok(())
+    write_line(&mut to, &object)?;
+    Ok(to.flush()?)
 }

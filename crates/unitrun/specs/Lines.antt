@@ -1,19 +1,14 @@
--- What the arguments of the command line come to, and what a run's last line is.
-use Rattle.std.specs.Prelude.{◌≡◌, ℕ, ◌<◌, Bool, true, false, ◌⊎◌, List, [], ◌∷◌, is_some, Some, None, Ok, Err, vec_len, Option, Result, Vec, String}
+-- What the arguments of the command line come to.
+use Rattle.std.specs.Prelude.{◌≡◌, ℕ, ◌<◌, Bool, true, false, ◌⊎◌, List, is_some, Some, None, Ok, Err, vec_len, Option, Result, Vec, String}
 use Rattle.decimal.specs.Feeding.{number_from}
 use Rattle.unitrun.specs.declared.options.Flag.{Flag}
 use Rattle.unitrun.specs.declared.options.Flag.TheVariants.{Room, Calls, Steps, Code}
 use Rattle.unitrun.specs.declared.options.Budgets.{Budgets}
 use Rattle.std.specs.declared.alloc.Global.{Global}
-use Rattle.machine.specs.declared.Ran.{Ran}
-use Rattle.machine.specs.declared.Ran.TheVariants.{Done, NoCalls, NoRoom, Wild, More, OutFull, Small}
-use Rattle.linker.specs.declared.Linked.{Linked}
-use Rattle.linker.specs.declared.Linked.TheVariants as linked
-use Rattle.semantics.specs.declared.linked.NotLinked.TheVariants as refusal
 use Rattle.unitrun.specs.declared.options.Command.{Command}
 use Rattle.unitrun.specs.declared.options.Command.TheVariants.{Help, Version, Run, Image, Code as CodeOf}
 use Rattle.unitrun.specs.declared.failure.Failure.{Failure}
-use Rattle.unitrun.specs.declared.failure.Failure.TheVariants.{Nothing, Unknown, NoNumber, NoValue, NoFile, BadFile, BadTape, CodeAndMore, NoImage, NotLinked, Small as TooSmall, NoOutput, NoMemory}
+use Rattle.unitrun.specs.declared.failure.Failure.TheVariants.{Nothing, Unknown, NoNumber, NoValue, BadFile, BadTape, CodeAndMore, NoImage, NotRun, NoOutput, NoMemory}
 
 -- the number that an option's value is; it is refused exactly if it is none
 abbrev pub NumberSays : List ℕ → Result ℕ Failure → Type 0
@@ -49,29 +44,9 @@ ChooseSays image code objects (Err CodeAndMore) = (is_some code ≡ true) × ((i
 ChooseSays image code objects (Err (Unknown a)) = ⊥
 ChooseSays image code objects (Err (NoNumber f t)) = ⊥
 ChooseSays image code objects (Err (NoValue f)) = ⊥
-ChooseSays image code objects (Err (NoFile n e)) = ⊥
 ChooseSays image code objects (Err (BadFile n e)) = ⊥
 ChooseSays image code objects (Err (BadTape e)) = ⊥
 ChooseSays image code objects (Err NoImage) = ⊥
-ChooseSays image code objects (Err (NotLinked r)) = ⊥
-ChooseSays image code objects (Err TooSmall) = ⊥
+ChooseSays image code objects (Err (NotRun e)) = ⊥
 ChooseSays image code objects (Err (NoOutput e)) = ⊥
-ChooseSays image code objects (Err NoMemory) = ⊥
-
--- how many words a run put out, and how it ended, in words
-abbrev pub ending_of : Ran → Option (ℕ × List ℕ)
-ending_of (Done n) = Some (n, 100 ∷ 111 ∷ 110 ∷ 101 ∷ [])
-ending_of (NoCalls n) = Some (n, 110 ∷ 111 ∷ 32 ∷ 99 ∷ 97 ∷ 108 ∷ 108 ∷ 115 ∷ [])
-ending_of (NoRoom n) = Some (n, 110 ∷ 111 ∷ 32 ∷ 114 ∷ 111 ∷ 111 ∷ 109 ∷ [])
-ending_of (Wild n) = Some (n, 119 ∷ 105 ∷ 108 ∷ 100 ∷ [])
-ending_of (More n) = Some (n, 109 ∷ 111 ∷ 114 ∷ 101 ∷ [])
-ending_of OutFull = Some (0, 111 ∷ 117 ∷ 116 ∷ 32 ∷ 102 ∷ 117 ∷ 108 ∷ 108 ∷ [])
-ending_of Small = None
-
--- how many words an image has and how many the units have, or why there is none
-abbrev pub sizes_of : Linked → Result (ℕ × ℕ) Failure
-sizes_of (linked.Image n words) = Ok (n, words)
-sizes_of linked.NoObjects = Err (NotLinked refusal.NoObjects)
-sizes_of linked.Twice = Err (NotLinked refusal.Twice)
-sizes_of linked.Missing = Err (NotLinked refusal.Missing)
-sizes_of linked.NoSpace = Err (NotLinked refusal.NoSpace)
+ChooseSays image code objects (Err (NoMemory e)) = ⊥

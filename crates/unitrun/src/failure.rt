@@ -1,64 +1,56 @@
 // Why a run could not be made, in a line for the user.
+ghost use Rattle.std.specs.Prelude.{◌≡◌};
+ghost use Rattle.unitrun.specs.declared.failure.Failure.{Failure};
+
 use crate::options::Flag;
 use decimal::input::InputError;
-use semantics::linked::NotLinked;
+use linker::NotLinked;
+use semantics::linked::RunError;
 use std::alloc::AllocError;
-use std::{fmt, io};
+use std::io;
+use thiserror::Error;
 
-#[derive(Drop)]
+#[derive(Debug, Drop, Error)]
 pub enum Failure {
+    #[error("no file is given; --help says how")]
     Nothing,
+    #[error("'{0}' is not an option; --help lists them")]
     Unknown(String),
+    #[error("{flag} takes a decimal number below 4294967296, not '{text}'")]
     NoNumber { flag: Flag, text: String },
+    #[error("{0} stands last and has no value")]
     NoValue(Flag),
-    NoFile { name: String, error: io::Error },
+    #[error("{name}: {error}")]
     BadFile { name: String, error: InputError },
+    #[error("the tape: {0}")]
     BadTape(InputError),
+    #[error("--code takes one file, and neither objects nor --image")]
     CodeAndMore,
+    #[error("the file holds no image")]
     NoImage,
-    NotLinked(NotLinked),
-    Small,
-    NoOutput(io::Error),
-    NoMemory,
+    #[error(transparent)]
+    NotRun(RunError),
+    #[error(transparent)]
+    NoOutput(#[from] io::Error),
+    #[error("out of memory")]
+    NoMemory(#[from(alloc)] AllocError),
 }
 
-impl From<io::Error> for Failure {
-    fn from(e: io::Error) -> Failure {
-        Failure::NoOutput(e)
+// By hand, as in unitc, since the derived conversions say nothing of the answer.
+impl From<RunError> for Failure {
+    ghost from_gives = { λ error failure. failure ≡ Failure.NotRun error };
+
+    fn from(error: RunError) -> Failure {
+        Failure::NotRun(error)
     }
 }
 
-impl From<AllocError> for Failure {
-    fn from(_e: AllocError) -> Failure {
-        Failure::NoMemory
-    }
-}
+impl From<NotLinked> for Failure {
+    ghost use Rattle.semantics.specs.declared.linked.RunError.{RunError};
 
-impl fmt::Display for Failure {
-    fn fmt<W: fmt::Write>(&self, f: &mut fmt::Formatter<W>) -> fmt::Result {
-        match self {
-            Failure::Nothing => write!(f, "no file is given; --help says how"),
-            Failure::Unknown(arg) => write!(f, "'{arg}' is not an option; --help lists them"),
-            Failure::NoNumber { flag, text } => write!(
-                f,
-                "{flag} takes a decimal number below 4294967296, not '{text}'"
-            ),
-            Failure::NoValue(flag) => write!(f, "{flag} stands last and has no value"),
-            Failure::NoFile { name, error } => write!(f, "{name}: {error}"),
-            Failure::BadFile { name, error } => write!(f, "{name}: {error}"),
-            Failure::BadTape(error) => write!(f, "the tape: {error}"),
-            Failure::CodeAndMore => write!(
-                f,
-                "--code takes one file, and neither objects nor --image"
-            ),
-            Failure::NotLinked(NotLinked::NoObjects) => write!(f, "no objects"),
-            Failure::NotLinked(NotLinked::Twice) => write!(f, "twice"),
-            Failure::NotLinked(NotLinked::Missing) => write!(f, "missing"),
-            Failure::NotLinked(NotLinked::NoSpace) => write!(f, "no space"),
-            Failure::NoImage => write!(f, "the file holds no image"),
-            Failure::Small => write!(f, "small"),
-            Failure::NoOutput(error) => write!(f, "{error}"),
-            Failure::NoMemory => write!(f, "out of memory"),
-        }
+    ghost from_gives = { λ refusal failure. failure ≡ Failure.NotRun (RunError.Link refusal) };
+
+    fn from(refusal: NotLinked) -> Failure {
+        Failure::NotRun(RunError::Link(refusal))
     }
 }

@@ -1,22 +1,20 @@
 // Links objects and runs them, or runs an image, on a tape that is given on standard input.
 #![tactic(auto)]
 
-ghost use Rattle.std.specs.Prelude.{◌≡◌};
-ghost use Rattle.std.specs.Option.{option_map};
-ghost use Rattle.unitrun.specs.Lines.{ending_of, sizes_of};
-
-use decimal::input::read_words;
+use decimal::input::{InputError, read_words};
 use decimal::output::write_line;
-use linker::{Linked, link};
+use linker::link;
 use machine::{Ran, go};
-use semantics::linked::{NotLinked, run_linked};
+use semantics::linked::{RunError, run_linked};
 use std::io::Write;
 use std::process::ExitCode;
 use std::{fs, io};
 
+mod ending;
 mod failure;
 mod options;
 
+use crate::ending::Ending;
 use crate::failure::Failure;
 use crate::options::{Budgets, Command, Options};
 
@@ -28,6 +26,8 @@ const INPUT_WORDS: usize = 393_216;
 const TAPE_WORDS: usize = 65_536;
 
 const OUT_WORDS: usize = 65_536;
+// An image's words in front of the units' code: a call of the first procedure and a halt, of two words each.
+const HEAD_WORDS: usize = 4;
 // What is left for the image and for memory.
 const FREE_WORDS: usize = BUFFER_WORDS - INPUT_WORDS - TAPE_WORDS - OUT_WORDS;
 
@@ -69,6 +69,7 @@ What is refused, and what to do:
   unitrun: no space    the image doesn't fit
   unitrun: small       units' words and room don't fit the memory: lower --room";
 
+// As in unitc, under another name: a crate of what both share would be longer than these lines.
 fn main(rt: HostRuntime) -> ExitCode {
     match run(&rt) {
         Ok(()) => ExitCode::SUCCESS,
@@ -94,24 +95,21 @@ fn run(rt: &HostRuntime) -> Result<(), Failure> {
 fn run_objects(rt: &HostRuntime, names: Vec<String>, budgets: Budgets) -> Result<(), Failure> {
     let objects = read_objects(rt, names)?;
     let tape = read_tape(rt)?;
-    let size = objects.len() + 4;
-    let mut image = vec![in rt.alloc(); 0u32; size]?;
-    let mut out = vec![in rt.alloc(); 0u32; OUT_WORDS]?;
-    let mut work = vec![in rt.alloc(); 0u32; FREE_WORDS.saturating_sub(size)]?;
+    let size = objects.len() + HEAD_WORDS;
+    let mut image = vec![in rt.alloc(); 0; size]?;
+    let mut out = vec![in rt.alloc(); 0; OUT_WORDS]?;
+    let mut work = vec![in rt.alloc(); 0; FREE_WORDS.saturating_sub(size)]?;
     let ran = run_linked(
-        objects.as_slice(),
+        &objects,
         budgets.room,
-        tape.as_slice(),
+        &tape,
         budgets.calls,
         budgets.steps,
-        image.as_mut_slice(),
-        out.as_mut_slice(),
-        work.as_mut_slice(),
+        &mut image,
+        &mut out,
+        &mut work,
     );
-    match ran {
-        Ok(ran) => print_run(rt, out.as_slice(), ran),
-        Err(refusal) => Err(Failure::NotLinked(refusal)),
-    }
+    print_run(rt, &out, ran)
 }
 
 // All the files' words, one file after the other.
@@ -123,105 +121,63 @@ fn read_objects(rt: &HostRuntime, names: Vec<String>) -> Result<Vec<u32>, Failur
     Ok(objects)
 }
 
-// Links the objects of files, and prints the image and the number of words of all units.
+// Links the objects of files, and prints the image on one line, and the number of words of all units on another.
 fn print_image(rt: &HostRuntime, names: Vec<String>) -> Result<(), Failure> {
     let objects = read_objects(rt, names)?;
-    let mut image = vec![in rt.alloc(); 0u32; objects.len() + 4]?;
-    let (n, words) = sizes(link(objects.as_slice(), image.as_mut_slice()))?;
-    print_words(rt, image.as_slice(), n, words)
-}
-
-// How many words the image has and how many the units have, or why there is none.
-fn sizes(linked: Linked) -> Result<(usize, usize), Failure>
-    ensures { result ≡ sizes_of linked }
-{
-    match linked {
-        Linked::Image(n, words) => Ok((n, words)),
-        Linked::NoObjects => Err(Failure::NotLinked(NotLinked::NoObjects)),
-        Linked::Twice => Err(Failure::NotLinked(NotLinked::Twice)),
-        Linked::Missing => Err(Failure::NotLinked(NotLinked::Missing)),
-        Linked::NoSpace => Err(Failure::NotLinked(NotLinked::NoSpace)),
-    }
-}
-
-// The first n words on one line, and the number of words of all units on another.
-fn print_words(rt: &HostRuntime, image: &[u32], n: usize, words: usize) -> Result<(), Failure> {
+    let mut words = vec![in rt.alloc(); 0; objects.len() + HEAD_WORDS]?;
+    let image = link(&objects, &mut words)?;
+    words.truncate(image.size);
     let mut to = io::BufWriter::new(rt.alloc(), rt.stdout())?;
-    let size = n.min(image.len());
-    write_line(&mut to, &image[0..size])?;
-    writeln!(to, "{words}")?;
-    to.flush()?;
-    Ok(())
+    write_line(&mut to, &words)?;
+    writeln!(to, "{}", image.words)?;
+    Ok(to.flush()?)
 }
 
 // Runs an image from a file.
 fn run_code(rt: &HostRuntime, name: String, budgets: Budgets) -> Result<(), Failure> {
     let mut code = Vec::with_capacity(rt.alloc(), INPUT_WORDS)?;
     read_file(rt, name, &mut code)?;
-    let Some(words) = code.pop() else {
-        return Err(Failure::NoImage);
-    };
+    let words = code.pop().ok_or(Failure::NoImage)?;
     let tape = read_tape(rt)?;
     let size = (words as usize + budgets.room as usize).min(FREE_WORDS);
-    let mut work = vec![in rt.alloc(); 0u32; size]?;
-    let mut out = vec![in rt.alloc(); 0u32; OUT_WORDS]?;
+    let mut work = vec![in rt.alloc(); 0; size]?;
+    let mut out = vec![in rt.alloc(); 0; OUT_WORDS]?;
     let ran = go(
-        code.as_slice(),
+        &code,
         words,
         budgets.room,
-        tape.as_slice(),
+        &tape,
         budgets.calls,
         budgets.steps,
-        out.as_mut_slice(),
-        work.as_mut_slice(),
+        &mut out,
+        &mut work,
     );
-    print_run(rt, out.as_slice(), ran)
+    print_run(rt, &out, ran.map_err(RunError::from))
 }
 
+// Reads a file behind the words that are there.
 fn read_file(rt: &HostRuntime, name: String, words: &mut Vec<u32>) -> Result<(), Failure> {
-    let mut file = match fs::open(rt, name.as_str()) {
-        Ok(file) => file,
-        Err(error) => return Err(Failure::NoFile { name, error }),
-    };
-    match read_words(&mut file, words, INPUT_WORDS) {
-        Ok(()) => Ok(()),
-        Err(error) => Err(Failure::BadFile { name, error }),
-    }
+    open_and_read(rt, &name, words).map_err(|error| Failure::BadFile { name, error })
+}
+
+fn open_and_read(rt: &HostRuntime, name: &str, words: &mut Vec<u32>) -> Result<(), InputError> {
+    let mut file = fs::open(rt, name)?;
+    read_words(&mut file, words, INPUT_WORDS)
 }
 
 fn read_tape(rt: &HostRuntime) -> Result<Vec<u32>, Failure> {
     let mut tape = Vec::with_capacity(rt.alloc(), TAPE_WORDS)?;
-    match read_words(&mut rt.stdin(), &mut tape, TAPE_WORDS) {
-        Ok(()) => Ok(tape),
-        Err(error) => Err(Failure::BadTape(error)),
-    }
-}
-
-// How many words a run put out, and how it ended.
-fn ending(ran: Ran) -> Option<(usize, &'static str)>
-    ensures { option_map (λ p. (p.0, p.1.now)) result ≡ ending_of ran }
-{
-    match ran {
-        Ran::Done(n) => Some((n, "done")),
-        Ran::NoCalls(n) => Some((n, "no calls")),
-        Ran::NoRoom(n) => Some((n, "no room")),
-        Ran::Wild(n) => Some((n, "wild")),
-        Ran::More(n) => Some((n, "more")),
-        Ran::OutFull => Some((0, "out full")),
-        Ran::Small => None,
-    }
+    read_words(&mut rt.stdin(), &mut tape, TAPE_WORDS).map_err(Failure::BadTape)?;
+    Ok(tape)
 }
 
 // Prints the words that were put out, one to a line, and how the run ended.
-fn print_run(rt: &HostRuntime, out: &[u32], ran: Ran) -> Result<(), Failure> {
-    let Some((n, ending)) = ending(ran) else {
-        return Err(Failure::Small);
-    };
+fn print_run(rt: &HostRuntime, out: &[u32], ran: Result<Ran, RunError>) -> Result<(), Failure> {
+    let ending = Ending::try_from(ran)?;
     let mut to = io::BufWriter::new(rt.alloc(), rt.stdout())?;
-    for x in out.iter().take(n) {
+    for x in out.iter().take(ending.put()) {
         writeln!(to, "{x}")?;
     }
     writeln!(to, "{ending}")?;
-    to.flush()?;
-    Ok(())
+    Ok(to.flush()?)
 }

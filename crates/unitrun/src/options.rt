@@ -4,17 +4,35 @@ ghost use Rattle.unitrun.specs.Lines.{NumberSays, BudgetSays, ChooseSays};
 
 use crate::failure::Failure;
 use decimal::parse;
+use std::alloc::Global;
+use std::str::FromStr;
 use std::{env, fmt};
+use thiserror::Error;
 
 // How much a run may use.
-#[derive(Clone, Copy)]
+#[derive(Clone, Copy, PartialEq, Eq, Debug)]
 pub struct Budgets {
     pub room: u32,
     pub calls: u32,
     pub steps: u32,
 }
 
-#[derive(Drop)]
+// What a run may use where the line does not say.
+impl Default for Budgets {
+    ghost use Rattle.std.specs.Prelude.{◌≡◌};
+
+    ghost is_default = { λ b. b ≡ record { room = 65536; calls = 1000000; steps = 4294967295 } };
+
+    fn default() -> Budgets {
+        Budgets {
+            room: 65_536,
+            calls: 1_000_000,
+            steps: u32::MAX,
+        }
+    }
+}
+
+#[derive(Debug, Drop, PartialEq, Eq)]
 pub enum Command {
     Help,
     Version,
@@ -23,14 +41,14 @@ pub enum Command {
     Code(String),
 }
 
-#[derive(Drop)]
+#[derive(Debug, Drop, PartialEq, Eq)]
 pub struct Options {
     pub budgets: Budgets,
     pub command: Command,
 }
 
 // An option whose value is the argument behind it.
-#[derive(Clone, Copy)]
+#[derive(Clone, Copy, PartialEq, Eq, Debug)]
 pub enum Flag {
     Room,
     Calls,
@@ -38,14 +56,43 @@ pub enum Flag {
     Code,
 }
 
-impl fmt::Display for Flag {
-    fn fmt<W: fmt::Write>(&self, f: &mut fmt::Formatter<W>) -> fmt::Result {
-        match self {
-            Flag::Room => write!(f, "--room"),
-            Flag::Calls => write!(f, "--calls"),
-            Flag::Steps => write!(f, "--steps"),
-            Flag::Code => write!(f, "--code"),
+// A text that is the name of no such option.
+#[derive(Clone, Copy, PartialEq, Eq, Debug, Error)]
+#[error("no option with a value has this name")]
+pub struct NoFlag;
+
+impl FromStr for Flag {
+    type Err = NoFlag;
+
+    ghost use Rattle.unitrun.specs.Flags.{ReadsFlag};
+
+    ghost from_str_gives = { ReadsFlag };
+
+    fn from_str(text: &str) -> Result<Flag, NoFlag> {
+        match text {
+            "--room" => Ok(Flag::Room),
+            "--calls" => Ok(Flag::Calls),
+            "--steps" => Ok(Flag::Steps),
+            "--code" => Ok(Flag::Code),
+            _ => Err(NoFlag),
         }
+    }
+}
+
+// By hand: a derived text has no contract.
+impl fmt::Display for Flag {
+    ghost use Rattle.std.specs.Prelude.{Some};
+    ghost use Rattle.unitrun.specs.Flags.{flag_name};
+
+    ghost output = { λ flag. Some (flag_name flag) };
+
+    fn fmt<W: fmt::Write>(&self, f: &mut fmt::Formatter<W>) -> fmt::Result {
+        f.write_str(match self {
+            Flag::Room => "--room",
+            Flag::Calls => "--calls",
+            Flag::Steps => "--steps",
+            Flag::Code => "--code",
+        })
     }
 }
 
@@ -66,18 +113,7 @@ impl Budgets {
 
 impl Options {
     pub fn read(rt: &HostRuntime) -> Result<Options, Failure> {
-        let mut line = Line {
-            budgets: Budgets {
-                room: 65_536,
-                calls: 1_000_000,
-                steps: 4_294_967_295,
-            },
-            waiting: None,
-            asked: None,
-            image: false,
-            code: None,
-            objects: Vec::new(rt.alloc()),
-        };
+        let mut line = Line::new(rt.alloc());
         for arg in env::args(rt)?.skip(1) {
             line.take(arg)?;
         }
@@ -86,7 +122,7 @@ impl Options {
 }
 
 // What has been read of the line: an option may be waiting for its value, and help or the version may have been asked for.
-#[derive(Drop)]
+#[derive(Debug, Drop, PartialEq, Eq)]
 struct Line {
     budgets: Budgets,
     waiting: Option<Flag>,
@@ -97,12 +133,20 @@ struct Line {
 }
 
 impl Line {
+    fn new(alloc: Global) -> Line {
+        Line {
+            budgets: Budgets::default(),
+            waiting: None,
+            asked: None,
+            image: false,
+            code: None,
+            objects: Vec::new(alloc),
+        }
+    }
+
     fn take(&mut self, arg: String) -> Result<(), Failure> {
-        match self.waiting {
-            Some(flag) => {
-                self.waiting = None;
-                self.set(flag, arg)
-            }
+        match self.waiting.take() {
+            Some(flag) => self.set(flag, arg),
             None => self.start(arg),
         }
     }
@@ -111,26 +155,14 @@ impl Line {
         match arg.as_str() {
             "--help" => self.asked = Some(Command::Help),
             "--version" => self.asked = Some(Command::Version),
-            "--room" => self.waiting = Some(Flag::Room),
-            "--calls" => self.waiting = Some(Flag::Calls),
-            "--steps" => self.waiting = Some(Flag::Steps),
-            "--code" => self.waiting = Some(Flag::Code),
             "--image" => self.image = true,
-            text => {
-                if text.starts_with("-") {
-                    return Err(Failure::Unknown(arg));
-                }
-                return self.object(arg);
-            }
+            text => match text.parse() {
+                Ok(flag) => self.waiting = Some(flag),
+                Err(NoFlag) if text.starts_with('-') => return Err(Failure::Unknown(arg)),
+                Err(NoFlag) => self.objects.push(arg)?,
+            },
         }
         Ok(())
-    }
-
-    fn object(&mut self, name: String) -> Result<(), Failure> {
-        match self.objects.push(name) {
-            Ok(()) => Ok(()),
-            Err(_) => Err(Failure::NoMemory),
-        }
     }
 
     fn set(&mut self, flag: Flag, text: String) -> Result<(), Failure> {
@@ -151,13 +183,11 @@ impl Line {
             code,
             objects,
         } = self;
-        if let Some(command) = asked {
-            return Ok(Options { budgets, command });
-        }
-        if let Some(flag) = waiting {
-            return Err(Failure::NoValue(flag));
-        }
-        let command = choose(image, code, objects)?;
+        let command = match (asked, waiting) {
+            (Some(command), _) => command,
+            (None, Some(flag)) => return Err(Failure::NoValue(flag)),
+            (None, None) => choose(image, code, objects)?,
+        };
         Ok(Options { budgets, command })
     }
 }
@@ -167,22 +197,11 @@ fn choose(image: bool, code: Option<String>, objects: Vec<String>) -> Result<Com
     ensures { ChooseSays image code objects result }
 {
     match code {
-        Some(name) => {
-            if image || objects.len() > 0 {
-                return Err(Failure::CodeAndMore);
-            }
-            Ok(Command::Code(name))
-        }
-        None => {
-            if objects.len() == 0 {
-                return Err(Failure::Nothing);
-            }
-            Ok(if image {
-                Command::Image(objects)
-            } else {
-                Command::Run(objects)
-            })
-        }
+        Some(_) if image || !objects.is_empty() => Err(Failure::CodeAndMore),
+        Some(name) => Ok(Command::Code(name)),
+        None if objects.is_empty() => Err(Failure::Nothing),
+        None if image => Ok(Command::Image(objects)),
+        None => Ok(Command::Run(objects)),
     }
 }
 
@@ -190,8 +209,5 @@ fn choose(image: bool, code: Option<String>, objects: Vec<String>) -> Result<Com
 fn number(flag: Flag, text: String) -> Result<u32, Failure>
     ensures { NumberSays (string_bytes text) result }
 {
-    match parse(text.as_str()) {
-        Some(n) => Ok(n),
-        None => Err(Failure::NoNumber { flag, text }),
-    }
+    parse(text.as_str()).ok_or_else(|| Failure::NoNumber { flag, text })
 }

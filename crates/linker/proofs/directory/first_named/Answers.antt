@@ -1,12 +1,9 @@
-use Rattle.std.proofs.Common.{sym, ◌∙◌}
-use Rattle.linker.proofs.Named.{named_here, named_not_here, named_nowhere}
+use Rattle.std.proofs.Common.{eqb, rules}
+use Rattle.std.proofs.lemmas.Iterator.{YieldsList-from_slice}
+use Rattle.std.proofs.lemmas.Iterator.Search.{find_from_yields_List}
+use Rattle.linker.proofs.Named.{named_found}
 use Rattle.linker.proofs.directory.first_named.Goals as goal
-
-pub returns-then-one-name : goal.returns-then-one-name
-returns-then-one-name c = sym (sym c.loop-one.invariant ∙ named_here c.args.name c.args.laid.now c.loop-one.one-index _ c.loop-one-test.true c.if-one-name.true)
-
-pub loop-one-preserved : goal.loop-one-preserved
-loop-one-preserved c = sym (named_not_here c.args.name c.args.laid.now c.loop-one.one-index _ c.loop-one-test.true c.if-one-name.false) ∙ c.loop-one.invariant
+use borrow.Author.Tests.{tests}
 
 pub returns : goal.returns
-returns c = sym (sym c.loop-one.invariant ∙ named_nowhere c.args.name c.args.laid.now c.loop-one.one-index c.loop-one-test.false)
+returns c = named_found c.args.name c.args.laid.now c.find.result (find_from_yields_List (λ x. eqb c.args.name x.object.name) _ _ _ c.find.ensures.ran (YieldsList-from_slice c.args.laid.now cc) (λ x b q k. search (rules, tests)))

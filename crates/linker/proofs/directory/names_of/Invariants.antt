@@ -1,6 +1,6 @@
-use Rattle.std.proofs.Common.{◌≡◌, length, take}
+use Rattle.std.proofs.Common.{◌≡◌, take}
 use Rattle.linker.specs.Tables.{names_of}
 use Rattle.linker.proofs.directory.names_of.Given as goal
 
-abbrev pub invariant-loop-number : goal.invariant-loop-number
-invariant-loop-number l = (length l.names ≡ 256) × (take l.number l.names ≡ names_of (take l.number l.laid))
+abbrev pub invariant-loop-one : goal.invariant-loop-one
+invariant-loop-one l = l.names.items ≡ names_of (take l.one-index l.laid.items)

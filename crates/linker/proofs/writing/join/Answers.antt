@@ -1,5 +1,13 @@
+use Rattle.std.proofs.Common.{sym, ap, is_some, ◌∙◌}
 use Rattle.linker.proofs.Joining.{joined}
+use Rattle.linker.proofs.Keeping.{stands_first}
 use Rattle.linker.proofs.writing.join.Goals as goal
 
+pub invariant_of-writer : goal.invariant_of-writer
+invariant_of-writer c = record {
+  met = ap is_some c.in_ok-find_all.ensures.met;
+  right = stands_first 32768 c.deref.result.now c.find_all.new.places.items _ c.deref.ensures.0 c.deref.ensures.1 c.in_ok-find_all.ensures.kept;
+}
+
 pub returns : goal.returns
-returns c = joined c.args.directory.now.laid.now c.in-Some.entry c.args.image.now c.write.new.image c.in-Some.ensures c.if-not-meets_all.ensures c.write.ensures
+returns c = joined c.args.directory.now.laid.now c.in_ok-entry.entry c.args.image.now c.write.new.image (sym c.in_ok-entry.ensures.ok_part ∙ c.entry.ensures) c.in_ok-find_all.ensures.met c.write.ensures

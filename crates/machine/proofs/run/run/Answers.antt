@@ -11,11 +11,11 @@ returns-in_default c = ends_halted c.loop-left.auto.out c.loop-left.invariant c.
 pub turn-requires : goal.turn-requires
 turn-requires c = record { running = c.in-Running.is; within = let w = c.loop-left.invariant.within in let f = c.ranges.steps.fits in omega arith; put = c.loop-left.invariant.put }
 
-pub returns-in_default-turn : goal.returns-in_default-turn
-returns-in_default-turn c = ends_full c.loop-left.auto.out c.loop-left-test.true c.loop-left.invariant c.in_default-turn.ensures
+pub returns-in_err-next : goal.returns-in_err-next
+returns-in_err-next c = rw c.from_residual.ensures (ends_full c.loop-left.auto.out c.loop-left-test.true c.loop-left.invariant c.in_err-next.ensures)
 
 pub loop-left-preserved : goal.loop-left-preserved
-loop-left-preserved c = goes_on c.loop-left-test.true c.turn.auto.out c.loop-left.invariant c.in-Some.ensures
+loop-left-preserved c = goes_on c.loop-left-test.true c.turn.auto.out c.loop-left.invariant c.in_ok-next.ensures
 
 pub returns : goal.returns
 returns c = ends_spent c.loop-left.auto.out c.loop-left.invariant c.loop-left-test.false

@@ -1,26 +1,40 @@
-use Rattle.std.proofs.Common.{[], ◌∷◌, ◌++◌, sym, arith, rules}
-use Rattle.std.proofs.lemmas.Bool.{leb-true, leb-false}
+use Rattle.std.proofs.Common.{[], ◌∷◌, ◌++◌, ◌∙◌, arith, rules}
+use Rattle.std.proofs.lemmas.List.{take_all}
 use Rattle.rows.specs.Bodies.{Any}
 use Rattle.rows.specs.UnitParts.{FewArgs}
-use Rattle.rows.proofs.ProcReading.{body_read, nothing_left, wrong_args, wrong_body, arities_more, all_arities}
+use Rattle.rows.proofs.Decided.{refused}
+use Rattle.rows.proofs.ProcReading.{parted, body_read, nothing_left, wrong_args, wrong_body, arities_more, none_over, some_over}
 use Rattle.rows.proofs.units.read_arities.Goals as goal
 
-pub returns-in_default : goal.returns-in_default
-returns-in_default c ps k = nothing_left FewArgs FewArgs c.loop-arity.invariant.1 c.loop-arity-test.true k (search rules)
+pub returns-in_err-args : goal.returns-in_err-args
+returns-in_err-args c =
+    let h = refused _ _ _ _ _ c.ok_or.ensures.value c.in_err-args.was c.from_residual.ensures.1 in
+    let short = rw h.0 at c.split_first.ensures.cases in
+    rw h.1 (λ ps k. nothing_left FewArgs FewArgs c.loop-arity.invariant.1 c.loop-arity-test.true k (omega (arith, short)))
 
-pub returns-then-not-few_args : goal.returns-then-not-few_args
-returns-then-not-few_args c ps k = wrong_args FewArgs FewArgs c.loop-arity.invariant.1 c.loop-arity-test.true k (λ p few is. omega (arith, leb-false _ _ (sym c.if-not-few_args.ensures)))
+pub returns-then-args-gt-MOST_ARGS : goal.returns-then-args-gt-MOST_ARGS
+returns-then-args-gt-MOST_ARGS c ps k =
+    let first = rw c.in_ok-args.ensures.ok_part at c.split_first.ensures.cases in
+    let p = parted first.0 in
+    wrong_args FewArgs FewArgs c.loop-arity.invariant.1 c.loop-arity-test.true k (λ q few is. omega (arith, p.0, c.if-args-gt-MOST_ARGS.true))
 
-pub returns-in_default-skip : goal.returns-in_default-skip
-returns-in_default-skip c ps k = wrong_body FewArgs FewArgs c.loop-arity.invariant.1 c.loop-arity-test.true k Any (search rules) c.in_default-skip.ensures (λ p is few. tt)
-
-pub offset_bounds-body-size : goal.offset_bounds-body-size
-offset_bounds-body-size c = let h = c.in-Some.ensures.2.inside in let k = c.loop-arity.invariant.1.shorter in search rules
+pub returns-in_err-size : goal.returns-in_err-size
+returns-in_err-size c =
+    let first = rw c.in_ok-args.ensures.ok_part at c.split_first.ensures.cases in
+    let p = parted first.0 in
+    let h = refused _ _ _ _ _ c.ok_or-in-loop-arity.ensures.value c.in_err-size.was c.from_residual-in_err-size.ensures.1 in
+    let none = rw h.0 at c.skip.ensures in
+    rw h.1 (λ ps k. wrong_body FewArgs FewArgs c.loop-arity.invariant.1 c.loop-arity-test.true k Any p.2 (rw p.1 none) (λ q is few. tt))
 
 pub loop-arity-preserved : goal.loop-arity-preserved
 loop-arity-preserved c =
-    let p = body_read FewArgs Any c.in-Some.size c.loop-arity.invariant.1 (search rules) c.in-Some.ensures (λ _ _. leb-true _ _ (sym c.if-not-few_args.ensures)) in
+    let first = rw c.in_ok-args.ensures.ok_part at c.split_first.ensures.cases in
+    let body = rw c.in_ok-size.ensures.ok_part at c.skip.ensures in
+    let p = body_read FewArgs Any _ _ c.in_ok-size.size c.loop-arity.invariant.1 first.0 body (λ e h. c.if-args-gt-MOST_ARGS.false) in
     (c.loop-arity.invariant.0 ++ p.0 ∷ [], p.2, arities_more c.loop-arity.invariant.0 p.0 c.loop-arity.arities c.loop-arity.arity-index _ c.loop-arity.invariant.2 p.1 (search rules))
 
 pub returns : goal.returns
-returns c = all_arities c.loop-arity.arities c.nothing_left.result c.loop-arity.invariant.1 (omega arith) c.loop-arity.auto.arities c.loop-arity.invariant.2 c.nothing_left.ensures
+returns c = (c.loop-arity.invariant.0, none_over FewArgs c.loop-arity.invariant.1 (omega arith) (search rules), c.loop-arity.invariant.2 ∙ take_all _ c.loop-arity.arities (omega arith))
+
+pub returns-then-not-is_empty : goal.returns-then-not-is_empty
+returns-then-not-is_empty c ps k = some_over FewArgs c.loop-arity.invariant.1 (omega arith) ps (search rules) k

@@ -1,10 +1,10 @@
-use Rattle.std.proofs.Common.{sym, ap, ◌∙◌}
-use Rattle.std.proofs.lemmas.Bool.{leb-true}
-use Rattle.rows.specs.UnitRows.{small_wants}
-use Rattle.rows.specs.ObjectViews.{want_of}
-use Rattle.rows.specs.WantRows.{wants_said}
-use Rattle.rows.proofs.UnitCuts.{small_more}
+use Rattle.std.proofs.Common.{leb, sym, ◌∙◌, rules}
+use Rattle.std.proofs.lemmas.Iterator.{YieldsList-from_slice}
+use Rattle.std.proofs.lemmas.Iterator.Search.{all_from_yields_List}
+use Rattle.std.proofs.lemmas.List.Folds.{list_all-map}
+use Rattle.rows.specs.ObjectViews.{want_in}
 use Rattle.rows.proofs.units.wants_small.Goals as goal
+use borrow.Author.Tests.{tests}
 
-pub loop-want-preserved : goal.loop-want-preserved
-loop-want-preserved c = sym (small_more (want_of c.in-Some.want) (wants_said c.in-Some.rest.now) (leb-true _ _ (sym c.if-not-few_args.ensures))) ∙ (ap small_wants (sym c.in-Some.ensures.reads) ∙ c.loop-want.invariant)
+pub returns : goal.returns
+returns c = all_from_yields_List (λ words. leb (want_in words).args 8) _ _ _ c.all.ensures.ran (YieldsList-from_slice c.args.wants.now cc) (λ x b q k. search (rules, tests)) ∙ sym (list_all-map (λ w. leb w.args 8) want_in c.args.wants.now)

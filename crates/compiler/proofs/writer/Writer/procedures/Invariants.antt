@@ -1,7 +1,7 @@
-use Rattle.rows.specs.Bodies.{outlined}
 use Rattle.compiler.specs.Writing.{state}
+use Rattle.compiler.specs.Laying.{outline_in, callees_in}
 use Rattle.compiler.proofs.Assembling.{Assembled}
 use Rattle.compiler.proofs.writer.Writer.procedures.Given as goal
 
 abbrev pub invariant-loop-number : goal.invariant-loop-number
-invariant-loop-number l = Assembled (outlined l.view.words l.view.wants.now l.arities) l.callees l._number (state l.initial.self) (state l.self)
+invariant-loop-number l = Assembled (outline_in l.layout) (callees_in l.layout) l._number (state l.initial.self) (state l.self)

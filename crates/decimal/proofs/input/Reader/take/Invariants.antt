@@ -1,4 +1,4 @@
-use Rattle.std.proofs.Common.{◌≡◌, ◌≤◌, drop, vec_items, vec_len}
+use Rattle.std.proofs.Common.{◌≡◌, drop, vec_items}
 use Rattle.decimal.specs.Reading.{reading, Grown}
 use Rattle.decimal.proofs.input.Reader.take.Given as goal
 
@@ -7,5 +7,5 @@ abbrev pub invariant-loop-b : goal.invariant-loop-b
 invariant-loop-b l =
     (reading (vec_items l.words) l.self.decimals.so_far (drop l.b-index l.text)
     ≡ reading (vec_items l.initial.words) l.initial.self.decimals.so_far l.text)
-    × Grown (vec_items l.initial.words) (vec_items l.words)
-    × (vec_len l.initial.words ≤ l.limit → vec_len l.words ≤ l.limit)
+    × Grown l.initial.self.limit (vec_items l.initial.words) (vec_items l.words)
+    × (l.self.limit ≡ l.initial.self.limit)

@@ -5,5 +5,5 @@ use Rattle.linker.proofs.laying.Laid.begin_of.Goals as goal
 
 pub overflow_add-result : goal.overflow_add-result
 overflow_add-result c =
-    let h = offer_below (laid_of c.args.self.now) c.args.proc c.args.args c.in_ok-at.at c.requires (sym c.in_ok-at.ensures) in
+    let h = offer_below (laid_of c.args.self.now) c.args.proc c.args.args c.in_ok-at.at c.args.self.now.settled (sym c.in_ok-at.ensures) in
     search rules

@@ -5,8 +5,8 @@ use Rattle.machine.proofs.registers.Registers.take_next.Goals.{then-self-tape, e
 
 pub returns : goal.returns
 returns c =
-    took_next c.args.self c.args.tape.now c.args.memory.now c.keep.new.memory c.at.result c.if-self-tape.read c.requires.running c.at.ensures c.keep.ensures
+    rw c.next.ensures (took_next c.args.self c.args.tape.now c.args.memory.now c.keep.new.memory c.word_at.result c.if-self-tape.read c.requires.running c.word_at.ensures c.keep.ensures
     (elim c.if-self-tape.branch [
       | then-self-tape w ↦ ap (λ n. drop n c.args.tape.now) w.read-is
       | else-self-tape w ↦ ap (λ n. drop n c.args.tape.now) w.read-is ∙ at_end c.args.tape.now c.args.self.read w.if-self-tape.false
-    ])
+    ]))

@@ -1,25 +1,11 @@
-use Rattle.std.proofs.Common.{arith, rules}
-use Rattle.rows.proofs.Fronts.{front_is}
+use Rattle.std.proofs.Common.{sym, ap, ◌∙◌, rules}
+use Rattle.rows.specs.ObjectReading.{said}
+use Rattle.rows.proofs.Fronts.{too_short, front_none}
 use Rattle.rows.proofs.objects.ObjectView.first.Goals as goal
 
-pub returns : goal.returns
-returns c = front_is c.args.row.now (search rules) (record {
-  enough = omega arith;
-  wants_part = _;
-  behind_wants = _;
-  offers_part = _;
-  behind_offers = _;
-  behind_code = _;
-  fits_part = _;
-  wants_is = c.split_at.ensures.front;
-  wants_cut = c.split_at.ensures.back;
-  wants_runs = c.as_chunks.ensures.front;
-  offers_is = c.split_at-2.ensures.front;
-  offers_cut = c.split_at-2.ensures.back;
-  offers_runs = c.as_chunks-2.ensures.front;
-  code_is = c.split_at-3.ensures.front;
-  code_cut = c.split_at-3.ensures.back;
-  fits_is = c.split_at-4.ensures.front;
-  fits_cut = c.split_at-4.ensures.back;
-  fits_runs = c.as_chunks-3.ensures.front;
-})
+pub returns-in_err-fits : goal.returns-in_err-fits
+returns-in_err-fits c =
+    let wants = c.in_ok-wants.ensures in
+    let offers = c.in_ok-offers.ensures in
+    let code = c.in_ok-code.ensures.cases in
+    ap said c.from_residual-in_err-fits.ensures ∙ sym (front_none c.args.row.now (search rules) (too_short _ _ _ _ _ _ _ _ wants.inside wants.rest offers.inside offers.rest code.0 code.2 c.in_err-fits.ensures))

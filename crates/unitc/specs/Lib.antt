@@ -1,2 +1,0 @@
--- What the program makes of the compiler's answers.
-pub mod Outcomes
