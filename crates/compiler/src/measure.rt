@@ -137,7 +137,7 @@ pub fn place_procedures(procs: &[u32], arities: &mut [u32], starts: &mut [u32]) 
 {
     let mut left = procs;
     let mut at = 0;
-    // not over both at once: of what a loop over `zip` has written there was no proof
+    // not over both at once: `zip` was tried, and of what a loop over it has written there was no proof
     for (number, arity) in arities.iter_mut().enumerate() {
         let [args, body @ ..] = left else {
             return None;

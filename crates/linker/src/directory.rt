@@ -91,7 +91,7 @@ impl<'t, 'a> Directory<'t, 'a> {
     pub fn named(&self, name: u32) -> Option<&'t Laid<'a>>
         ensures { option_map (λ l. laid_of l.now) result ≡ named_laid name (laid_in self.now.laid.now) }
     {
-        // a loop, since the borrow checker covers no find_map whose closure hands out what it borrows from outside
+        // a loop: `find_map` was tried, and the borrow checker covers none whose closure hands out what it borrows from outside
         for step in 0..TRIES {
             let hint = self.hints[hint_at(name, step)] as usize;
             if let Some(likely) = self.laid.get(hint)

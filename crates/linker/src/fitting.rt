@@ -34,7 +34,7 @@ impl Fitter<'_, '_, '_> {
     fn sought(&self, number: usize) -> u32
         ensures { result ≡ slice_index (wanted_of self.now) number }
     {
-        // by a match: what a closure gives that calls `place` is not known to the proof
+        // by a match: `and_then` was tried, and what a closure gives that calls `place` is not known to the proof
         match self.own.object.want(number) {
             Some(want) => self.directory.place(want).unwrap_or(0),
             None => 0,
@@ -45,7 +45,7 @@ impl Fitter<'_, '_, '_> {
     fn wanted(&self, number: usize) -> u32
         ensures { result ≡ slice_index (wanted_of self.now) number }
     {
-        // by a match: what a closure gives that calls `sought` is not known to the proof
+        // by a match: `unwrap_or_else` was tried, and what a closure gives that calls `sought` is not known to the proof
         match self.known.get(number) {
             Some(place) => *place,
             None => self.sought(number),
@@ -68,7 +68,7 @@ impl Fitter<'_, '_, '_> {
         ensures { code.new ≡ slice_set code.old fit.at (fitted_word (own_of self.now) (wanted_of self.now) (slice_index code.old fit.at) fit.kind fit.want) }
     {
         let at = fit.at as usize;
-        // by an index: of a slice lent by get_mut nothing is known after the write
+        // by an index: `get_mut` was tried, and of a slice that it lends nothing is known after the write
         if at < code.len() {
             code[at] = self.fitted(fit, code[at]);
         }

@@ -43,7 +43,7 @@ impl Writer<'_, '_, '_> {
     {
         let directory = self.directory;
         let mut known = self.known;
-        // by an offset: behind a loop that goes down the words by split_at_mut the proof knows nothing of what they hold
+        // by an offset: `split_at_mut` was tried, and behind a loop that goes down the words by it the proof knows nothing of what they hold
         let mut at = 0;
         for own in directory.laid {
             let (first, others) = known.split_at(known.len().min(own.object.wants.len()));

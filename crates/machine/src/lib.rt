@@ -21,7 +21,7 @@ pub use opcode::{Opcode, UnknownOpcode};
 
 // Runs code with so many words of units, room, tape and calls, for so many steps. What is put out stands first in `out`, and the
 // rest of `out` stays; where it does not fit, and in `work`, anything may be left.
-// Room, calls and steps are plain parameters, since firms call `go` as it stands: its signature is fixed.
+// Room, calls and steps are plain parameters, since firms call `go` as it stands: its parameters are fixed.
 pub fn go(
     code: &[u32],
     words: u32,

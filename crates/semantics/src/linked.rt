@@ -53,7 +53,7 @@ impl Error for RunError {}
 // Links the objects of a row and runs their image, which stands first in `image`, with this room, tape and number of calls, for so many steps.
 // What is put out stands first in `out`, and the rest of both stays; where it does not fit in `out`, and in `work`, anything may be left.
 // Objects of units that fit together do what the units do.
-// Room, calls and steps stay plain parameters, as in machine's `go`: the signatures of both are fixed for the programs of others that call them.
+// Room, calls and steps stay plain parameters, as in machine's `go`: the parameters of both are fixed for the programs of others that call them.
 pub fn run_linked(
     objects: &[u32],
     room: u32,
