@@ -10,40 +10,52 @@ mod sets;
 mod ways;
 
 use crate::sets::{Set, Sets};
-use crate::ways::{Bench, Way};
+use crate::ways::Bench;
 
 // The most numbers of a file.
 const FILE_WORDS: usize = 1_048_576;
+
+// How many words may be put out: more than any set does.
+const OUT_WORDS: usize = 4096;
 
 fn main(rt: HostRuntime) -> io::Result<()> {
     run(&rt)
 }
 
 fn run(rt: &HostRuntime) -> io::Result<()> {
+    let mut bench = Bench::new(rt.alloc())?;
     for name in ["sets.txt", "shapes.txt", "misfits.txt"] {
         rt.println(name)?;
-        print_file(rt, name)?;
+        print_file(rt, name, &mut bench)?;
     }
     Ok(())
 }
 
-fn print_file(rt: &HostRuntime, name: &str) -> io::Result<()> {
+fn print_file(rt: &HostRuntime, name: &str, bench: &mut Bench) -> io::Result<()> {
     let mut file = fs::open(rt, name)?;
     let mut words = Vec::new(rt.alloc());
     if let Err(e) = read_words(&mut file, &mut words, FILE_WORDS) {
         rt.println(e)?;
     }
-    let mut bench = Bench::new(rt.alloc())?;
-    for (i, set) in Sets::new(rt.alloc(), &words).enumerate() {
-        print_set(rt, i + 1, &set?, &mut bench)?;
+    let mut out = vec![in rt.alloc(); 0; OUT_WORDS]?;
+    let mut other_out = vec![in rt.alloc(); 0; OUT_WORDS]?;
+    for (i, set) in Sets::new(&words).enumerate() {
+        print_set(rt, i + 1, &set, bench, &mut out, &mut other_out)?;
     }
     Ok(())
 }
 
 // Prints what comes of a set, and whether that is not so in all ways.
-fn print_set(rt: &HostRuntime, number: usize, set: &Set<'_>, bench: &mut Bench) -> io::Result<()> {
-    let first = bench.outcome(set, Way::Order(set.first_order()));
-    let remark = if bench.agrees(set, &first) {
+fn print_set(
+    rt: &HostRuntime,
+    number: usize,
+    set: &Set<'_>,
+    bench: &mut Bench,
+    out: &mut [u32],
+    other_out: &mut [u32],
+) -> io::Result<()> {
+    let first = bench.outcome(set, 0, out);
+    let remark = if bench.agrees(set, &first, other_out) {
         ""
     } else {
         ", and otherwise in another way"

@@ -6,15 +6,13 @@ use machine::{Ran, Status};
 use rows::units::Refusal;
 use semantics::linked::{RunError, run_linked};
 use std::alloc::{AllocError, Global};
-use std::{fmt, iter};
+use std::fmt;
 use thiserror::Error;
 
-// How many words are lent: more than any set wants.
+// How many words there are for a set's objects together, and how many are lent to work with.
 const OBJECT_WORDS: usize = 131_072;
 
 const WORK_WORDS: usize = 262_144;
-
-const OUT_WORDS: usize = 4096;
 
 // An image's words in front of the units' code: a call of the first procedure and a halt, of two words each.
 const HEAD_WORDS: usize = 4;
@@ -26,16 +24,27 @@ pub enum Way<'a> {
     WithExtra(&'a [u32]),
 }
 
+impl<'a> Set<'a> {
+    // The way of a number: the orders, and behind all of them the first with the unrelated unit.
+    fn way(&self, number: u32) -> Way<'a> {
+        if number < self.order_count {
+            Way::Order(self.order(number))
+        } else {
+            Way::WithExtra(self.order(0))
+        }
+    }
+}
+
 // The words put out, and how the run ended.
-#[derive(Debug, Drop, PartialEq, Eq)]
-pub struct Outcome {
-    out: Vec<u32>,
+#[derive(Clone, Copy, PartialEq, Eq, Debug)]
+pub struct Outcome<'o> {
+    out: &'o [u32],
     status: Status,
 }
 
-impl fmt::Display for Outcome {
+impl fmt::Display for Outcome<'_> {
     fn fmt<W: fmt::Write>(&self, f: &mut fmt::Formatter<W>) -> fmt::Result {
-        for word in &self.out {
+        for word in self.out {
             write!(f, "{word} ")?;
         }
         write!(f, "{}", self.status)
@@ -49,55 +58,60 @@ pub enum Failure {
     Refused(#[from] Refusal),
     #[error(transparent)]
     NotRun(#[from] RunError),
-    #[error("out of memory")]
-    NoMemory(#[from] AllocError),
 }
 
-// What a set is worked out with: the objects of its units, one behind the other, and the words that are lent for an object, for what is put out,
-// and for all else.
+// What a set is worked out with: the objects of its units, one behind the other in the first `size` words, and the words that are lent for all
+// else. What is put out goes to words that the caller lends.
 #[derive(Debug, Drop)]
 pub struct Bench {
     objects: Vec<u32>,
-    object: Vec<u32>,
-    out: Vec<u32>,
+    size: usize,
     work: Vec<u32>,
-    alloc: Global,
 }
 
 impl Bench {
     pub fn new(alloc: Global) -> Result<Bench, AllocError> {
         Ok(Bench {
-            objects: Vec::new(alloc),
-            object: vec![in alloc; 0; OBJECT_WORDS]?,
-            out: vec![in alloc; 0; OUT_WORDS]?,
+            objects: vec![in alloc; 0; OBJECT_WORDS]?,
+            size: 0,
             work: vec![in alloc; 0; WORK_WORDS]?,
-            alloc,
         })
     }
 
-    // What comes of the set in a way.
-    pub fn outcome(&mut self, set: &Set<'_>, way: Way<'_>) -> Result<Outcome, Failure> {
-        self.compile_way(set, way)?;
-        let ran = self.run(set)?;
+    // What comes of the set in the way of a number.
+    pub fn outcome<'o>(
+        &mut self,
+        set: &Set<'_>,
+        way: u32,
+        out: &'o mut [u32],
+    ) -> Result<Outcome<'o>, Failure> {
+        self.compile_way(set, set.way(way))?;
+        let Ran { status, put } = self.run(set, out)?;
         Ok(Outcome {
-            out: self.out.iter().take(ran.put).copied().collect(self.alloc)?,
-            status: ran.status,
+            out: out.get(..put).unwrap_or_default(),
+            status,
         })
     }
 
-    // Whether in all other ways the same comes of the set as in the first order.
-    pub fn agrees(&mut self, set: &Set<'_>, first: &Result<Outcome, Failure>) -> bool {
-        set.orders
-            .iter()
-            .skip(1)
-            .map(|order| Way::Order(order))
-            .chain(iter::once(Way::WithExtra(set.first_order())))
-            .all(|way| self.outcome(set, way) == *first)
+    // Whether in all other ways the same comes of the set as in the first.
+    pub fn agrees(
+        &mut self,
+        set: &Set<'_>,
+        first: &Result<Outcome<'_>, Failure>,
+        out: &mut [u32],
+    ) -> bool {
+        // no `all`: the borrow checker does not cover a closure that compares what borrows from the words that are lent to it
+        for number in 0..set.order_count {
+            if self.outcome(set, number + 1, out) != *first {
+                return false;
+            }
+        }
+        true
     }
 
     // Compiles the units for a way, each alone.
     fn compile_way(&mut self, set: &Set<'_>, way: Way<'_>) -> Result<(), Failure> {
-        self.objects.clear();
+        self.size = 0;
         match way {
             Way::Order(order) => self.compile_all(set, order),
             Way::WithExtra(order) => {
@@ -117,26 +131,28 @@ impl Bench {
         Ok(())
     }
 
-    // Compiles a unit and puts its object behind the others.
+    // Compiles a unit, and puts its object behind the others.
     fn compile_one(&mut self, unit: &[u32]) -> Result<(), Failure> {
-        let size = compile(unit, &mut self.object, &mut self.work)?;
-        self.objects
-            .extend_from_slice(self.object.get(..size).unwrap_or_default())?;
+        let size = self.size.min(self.objects.len());
+        let (_, free) = self.objects.split_at_mut(size);
+        let words = compile(unit, free, &mut self.work)?;
+        self.size = size.saturating_add(words);
         Ok(())
     }
 
     // Links the objects and runs them, for as many steps as can be asked for.
-    fn run(&mut self, set: &Set<'_>) -> Result<Ran, RunError> {
-        let middle = self.work.len().min(self.objects.len() + HEAD_WORDS);
+    fn run(&mut self, set: &Set<'_>, out: &mut [u32]) -> Result<Ran, RunError> {
+        let objects = &self.objects[..self.size.min(self.objects.len())];
+        let middle = self.work.len().min(objects.len() + HEAD_WORDS);
         let (image, memory) = self.work.split_at_mut(middle);
         run_linked(
-            &self.objects,
+            objects,
             set.room,
             set.tape,
             set.calls,
             u32::MAX,
             image,
-            &mut self.out,
+            out,
             memory,
         )
     }

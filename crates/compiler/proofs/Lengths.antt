@@ -1,9 +1,12 @@
 -- How long code is, measured by the unit's row.
-use Rattle.std.proofs.Common.{◌≡◌, ℕ, zero, suc, ◌+◌, ◌*◌, ◌≤◌, List, [], ◌∷◌, length, sym, ap, ◌∙◌, arith, length-append}
+use Rattle.std.proofs.Common.{◌≡◌, ℕ, zero, suc, ◌+◌, ◌*◌, ◌≤◌, List, [], ◌∷◌, length, sym, refl, ap, ◌∙◌, arith, length-append}
 use Rattle.rows.specs.Units.{Expr, num, arg, word, op, if, keep, then, out, next, call, Exprs, nil, cons, Proc, SourceUnit}
 use Rattle.rows.specs.Frames.{height, heights}
 use Rattle.rows.specs.UnitRows.{row_expr, row_exprs, row_wants, row_procs, UnitRow}
-use Rattle.compiler.specs.Code.{size, size_args, size_proc, proc_at}
+use Rattle.compiler.specs.Instructions.{code_words}
+use Rattle.compiler.specs.Code.{size, size_args, size_proc, proc_at, code_procs, code_proc}
+use Rattle.compiler.proofs.Lying.{length_words_append}
+use Rattle.compiler.proofs.Units.{length_proc}
 
 pub row_there : (e : Expr) → 1 ≤ length (row_expr e)
 row_there (num n) = omega arith
@@ -55,6 +58,10 @@ mutual
 abbrev pub size_procs : List Proc → ℕ
 size_procs [] = 0
 size_procs (q ∷ qs) = size_proc q + size_procs qs
+
+pub length_procs : (u : SourceUnit) (b : ℕ) (qs : List Proc) → length (code_words (code_procs u b qs)) ≡ size_procs qs
+length_procs u b [] = refl
+length_procs u b (q ∷ qs) = rw (length_words_append (code_proc u b q) (code_procs u (b + size_proc q) qs), length_proc u b q, length_procs u (b + size_proc q) qs)
 
 pub proc_at_most : (qs : List Proc) (n : ℕ) → proc_at qs n ≤ size_procs qs
 proc_at_most [] n = omega arith

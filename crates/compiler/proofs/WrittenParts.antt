@@ -282,7 +282,12 @@ abbrev pub reading : State → List ℕ → State
 reading s r = record { row = r; code = s.code; code_lent = s.code_lent; fits = s.fits; fits_lent = s.fits_lent }
 
 -- a sign is a word or more, which is space for its own instructions
--- the same where the places and the changed words are told by equations
+pub space_behind : (s : State) (r : List ℕ) (n : ℕ) (sign : Sign) → Begins s.row n (row_sign sign) → r ≡ drop n s.row → Space 0 0 s → Space 2 3 (reading s r)
+space_behind s r n sign read is space =
+    let shorter = ap (λ (xs : List ℕ). length xs) is in
+    record { for_code = omega (arith, space.for_code, length-drop n s.row, read.size, read.inside, sign_some sign); for_fits = omega (arith, space.for_fits, length-drop n s.row, read.size, read.inside, sign_some sign); words = space.words }
+
+-- the same as `branch_written`, where the places and the changed words are told by equations
 pub branch_filled : (p : Names) (d : ℕ) (s s₁ s₂ s₃ s₄ a s₆ b : State) (i₁ i₂ t₁ t₂ h l k m n : ℕ) → WroteExpr p d s s₁ h → i₁ ≡ length s₁.code + 1 → WroteOne (instr machine.JumpIfZero (in_code 0)) s₁ s₂ →
     WroteExpr p d s₂ s₃ l → i₂ ≡ length s₃.code + 1 → WroteOne (instr machine.Jump (in_code 0)) s₃ s₄ → t₁ ≡ length s₄.code → a ≡ changed s₄ i₁ t₁ → WroteExpr p d a s₆ k → t₂ ≡ length s₆.code → b ≡ changed s₆ i₂ t₂ →
     m ≡ max n k → n ≡ max h l → WroteParts p d 3 branch s b m

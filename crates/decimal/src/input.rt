@@ -1,9 +1,9 @@
 // Words from a file or from standard input.
-ghost use Rattle.std.specs.Prelude.{◌≡◌, ◌≤◌, Some, vec_len};
-ghost use Rattle.decimal.specs.declared.input.InputError.TheVariants.{NoNumber};
+ghost use Rattle.std.specs.Prelude.{◌≡◌, ◌≤◌, vec_len};
+ghost use Rattle.std.specs.Result.{result_ok};
 ghost use Rattle.decimal.specs.Reading.{KeepSays, TakeSays, Grown};
 
-use crate::Decimals;
+use crate::{Decimals, NotDecimal};
 use std::alloc::AllocFailed;
 use std::io;
 use std::io::Read;
@@ -60,7 +60,7 @@ pub fn read_words<R: Read>(
         reader.take(&chunk[..n], words)?;
     }
     let last = reader.decimals.end();
-    reader.keep(last, words)
+    reader.keep(Ok(last), words)
 }
 
 // Where a text stands: its numbers, and the line; and how many words there may be.
@@ -79,10 +79,7 @@ impl Reader {
         ensures limit { self.new.limit ≡ self.old.limit }
     {
         for b in text {
-            let fed = self
-                .decimals
-                .feed(*b)
-                .map_err(|_| self.no_number(words.len()))?;
+            let fed = self.decimals.feed(*b);
             self.keep(fed, words)?;
             if *b == b'\n' {
                 self.line = self.line.saturating_add(1);
@@ -91,23 +88,24 @@ impl Reader {
         Ok(())
     }
 
-    // What is said of a bad number behind so many words.
-    fn no_number(&self, before: usize) -> InputError
-        ensures { result ≡ NoNumber self.now.line before }
-    {
-        InputError::NoNumber {
-            line: self.line,
-            before,
-        }
-    }
-
-    // Keeps a number, if one came.
-    fn keep(&self, fed: Option<u32>, words: &mut Vec<u32>) -> Result<(), InputError>
-        ensures says { KeepSays self.now.line self.now.limit (Some fed) words.old.items words.new.items result }
+    // Keeps a number, if one came; of a byte that makes none it says where it stands.
+    fn keep(
+        &self,
+        fed: Result<Option<u32>, NotDecimal>,
+        words: &mut Vec<u32>,
+    ) -> Result<(), InputError>
+        ensures says { KeepSays self.now.line self.now.limit (result_ok fed) words.old.items words.new.items result }
         ensures grown { Grown self.now.limit words.old.items words.new.items }
     {
-        let Some(number) = fed else {
-            return Ok(());
+        let number = match fed {
+            Ok(Some(number)) => number,
+            Ok(None) => return Ok(()),
+            Err(NotDecimal) => {
+                return Err(InputError::NoNumber {
+                    line: self.line,
+                    before: words.len(),
+                });
+            }
         };
         if words.len() >= self.limit {
             return Err(InputError::TooLong { limit: self.limit });

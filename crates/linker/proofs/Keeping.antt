@@ -20,7 +20,7 @@ take_front zero xs ys = refl
 take_front (suc n) [] ys = refl
 take_front (suc n) (x ∷ xs) ys = ap (λ zs. x ∷ zs) (take_front n xs ys)
 
-take_its_length : (n : ℕ) (xs : List ℕ) → take n xs ≡ take (length (take n xs)) xs
+pub take_its_length : (n : ℕ) (xs : List ℕ) → take n xs ≡ take (length (take n xs)) xs
 take_its_length zero xs = refl
 take_its_length (suc n) [] = refl
 take_its_length (suc n) (x ∷ xs) = ap (λ zs. x ∷ zs) (take_its_length n xs)

@@ -9,8 +9,8 @@ use Rattle.linker.specs.Tables.{laid_in, objects_of, unlaid, all_code}
 use Rattle.linker.specs.Laying.{Laying}
 use Rattle.linker.specs.Fitting.{Joined, IsNotJoined}
 use Rattle.linker.specs.Says.{LinkedPost}
+use Rattle.linker.specs.declared.laying.Extent.{Extent}
 use Rattle.linker.specs.declared.laying.Laid.{Laid as LaidView}
-use Rattle.linker.specs.declared.laying.Layout.{Layout}
 use Rattle.linker.specs.declared.Image.{Image}
 use Rattle.linker.specs.declared.NotLinked.{NotLinked}
 use Rattle.linker.specs.declared.NotLinked.TheVariants.{NoObjects, Twice, Missing, NoSpace}
@@ -29,23 +29,23 @@ post_no_objects s o (Ok i) enough is none = absurd is
 post_no_objects s o (Err e) enough is none = rw is (record { says = record { none = none; kept = refl }; space = has_space s o (Err NoObjects) enough (λ e. let z : ◌≡◌ {A = ℕ} 0 1 = cc in omega arith); one_list = one_list })
 
 -- the row's objects are laid
-module _ (s o : List ℕ) (enough : 4 + length s ≤ length o) (l : Layout) (laying : Laying s l) where
+module _ (s o : List ℕ) (enough : 4 + length s ≤ length o) (table : List LaidView) (l : Extent) (laying : Laying s table l) where
   abbrev os : List Object
   os = laying.objects
 
-  objects_are : objects_of l.laid.items ≡ os
-  objects_are = sym (unlaid_in l.laid.items) ∙ (ap unlaid laying.laid ∙ unlaid-lay os 4 0)
+  objects_are : objects_of (take l.objects table) ≡ os
+  objects_are = sym (unlaid_in (take l.objects table)) ∙ (ap unlaid laying.laid ∙ unlaid-lay os 4 0)
 
   code_small : all_code os ≤ length s
   code_small = rw laying.rows.row at (code_in_row os)
 
   -- a refusal that is that two have one name
-  pub post_twice : (e' : NotLinked) (r : Result Image NotLinked) → IsErrAnd r (λ e. e ≡ e') → e' ≡ Twice → twice (objects_of l.laid.items) ≡ true → LinkedPost s o o r
+  pub post_twice : (e' : NotLinked) (r : Result Image NotLinked) → IsErrAnd r (λ e. e ≡ e') → e' ≡ Twice → twice (objects_of (take l.objects table)) ≡ true → LinkedPost s o o r
   post_twice e' (Ok i) is so two = absurd is
   post_twice e' (Err e) is so two = rw (is, so) (record { says = record { objects = os; rows = laying.rows; names = sym (ap twice objects_are) ∙ two; kept = refl }; space = has_space s o (Err Twice) enough (λ q. let z : ◌≡◌ {A = ℕ} 0 1 = cc in omega arith); one_list = one_list })
 
   -- t are the objects of a directory, no two of which have one name
-  module _ (t : List LaidView) (is : t ≡ l.laid.items) (apart : twice (objects_of t) ≡ false) where
+  module _ (t : List LaidView) (is : t ≡ (take l.objects table)) (apart : twice (objects_of t) ≡ false) where
     laid : laid_in t ≡ lay os 4 0
     laid = ap laid_in is ∙ laying.laid
 

@@ -1,5 +1,5 @@
 // Objects by their names.
-ghost use Rattle.std.specs.Prelude.{◌≡◌, ◌<◌, false};
+ghost use Rattle.std.specs.Prelude.{◌≡◌, ◌<◌, ◌≤◌, false, length};
 ghost use Rattle.std.specs.Option.{option_map};
 ghost use Rattle.linker.specs.Linking.{named as named_laid, twice as two_names};
 ghost use Rattle.linker.specs.Tables.{laid_of, laid_in, objects_of, names_of};
@@ -11,11 +11,12 @@ use arrayvec::ArrayVec;
 use rows::objects::MOST_OBJECTS;
 
 // The names of the objects, in their order. By a loop, since `collect` asks for an allocator, and there is none here.
-fn names_of(laid: &ArrayVec<Laid, MOST_OBJECTS>) -> ArrayVec<u32, MOST_OBJECTS>
-    ensures { result.items ≡ names_of laid.now.items }
+fn names_of(laid: &[Laid]) -> ArrayVec<u32, MOST_OBJECTS>
+    requires { length laid.now ≤ 256 }
+    ensures { result.items ≡ names_of laid.now }
 {
     let mut names = ArrayVec::new();
-    for one in laid.iter() {
+    for one in laid {
         names.push(one.object.name);
     }
     names
@@ -73,13 +74,13 @@ impl<'t, 'a> Directory<'t, 'a> {
     ghost use Rattle.linker.specs.Directories.{DirectorySays};
 
     // A directory of the objects, where no two have one name.
-    pub fn new(laid: &'t ArrayVec<Laid<'a>, MOST_OBJECTS>) -> Result<Directory<'t, 'a>, NotLinked>
-        ensures { DirectorySays laid.now.items result }
+    pub fn new(laid: &'t [Laid<'a>]) -> Result<Directory<'t, 'a>, NotLinked>
+        requires { length laid.now ≤ 256 }
+        ensures { DirectorySays laid.now result }
     {
         if twice(&names_of(laid)) {
             return Err(NotLinked::Twice);
         }
-        let laid: &[Laid] = laid;
         let mut hints = [0; HINTS];
         for (number, one) in laid.iter().enumerate() {
             hints[free_for(&hints, one.object.name)] = number as u8;

@@ -8,9 +8,9 @@ use crate::laying::Laid;
 use arrayvec::ArrayVec;
 use rows::objects::{Fit, Kind};
 
-// How many places of an object's wants are looked for again before its code is fitted, where not all were kept; those of further wants are looked
-// for at each fit.
-const FEW: usize = 4096;
+// How many of an object's wants are looked for again before its code is fitted, where fewer places of its wants were kept. Those of further
+// wants are looked for at each fit.
+const FEW: usize = 256;
 
 // What an object's code is fitted by: all objects, the object itself, and the places of the first of its wants.
 #[derive(Debug, Drop)]
@@ -25,7 +25,7 @@ pub struct Fitter<'f, 't, 'a> {
 }
 
 impl Fitter<'_, '_, '_> {
-    ghost use Rattle.std.specs.Prelude.{◌≡◌, length, slice_index, slice_set};
+    ghost use Rattle.std.specs.Prelude.{◌≡◌, length, take, slice_index, slice_set};
     ghost use Rattle.linker.specs.Linking.{fitted as fitted_word, fit_all};
     ghost use Rattle.linker.specs.Fitting.{fitted_code};
     ghost use Rattle.linker.specs.Fitters.{all_of, own_of, wanted_of};
@@ -79,23 +79,33 @@ impl Fitter<'_, '_, '_> {
         ensures { code.new ≡ fit_all (own_of self.now) (wanted_of self.now) (own_of self.now).object.fits code.old }
     {
         let own = self.own;
-        for words in own.object.fits {
+        let mut left = own.object.fits.iter();
+        // no `for`, whose proof would not read with the fits taken from the other end, so that the order would go untried
+        while let Some(words) = left.next() {
             self.fit_word(Fit::from(*words), code);
         }
     }
 
-    // Fits the code where not all places were kept: those of the first few wants are looked for again before it.
+    // The places of the object's first few wants, looked for anew.
+    fn first_places(&self) -> ArrayVec<u32, FEW>
+        ensures { result.items ≡ take 256 (wanted_of self.now) }
+    {
+        let mut places = ArrayVec::new();
+        let own = self.own;
+        for number in 0..own.object.wants.len().min(FEW) {
+            places.push(self.sought(number));
+        }
+        places
+    }
+
+    // Fits the code where few places were kept: those of the first few wants are looked for again before it.
     fn fit_anew(&self, code: &mut [u32])
         ensures { code.new ≡ fit_all (own_of self.now) (wanted_of self.now) (own_of self.now).object.fits code.old }
     {
-        let mut places: ArrayVec<u32, FEW> = ArrayVec::new();
-        let own = self.own;
-        let Ok(()) = self.directory.find(own.object.wants, &mut places) else {
-            unreachable!()
-        };
+        let places = self.first_places();
         let fitter = Fitter {
             directory: self.directory,
-            own,
+            own: self.own,
             known: &places,
         };
         fitter.fit_code(code);
@@ -108,7 +118,7 @@ impl Fitter<'_, '_, '_> {
     {
         let own = self.own;
         code.copy_from_slice(own.object.code);
-        if self.known.len() < own.object.wants.len() {
+        if self.known.len() < own.object.wants.len().min(FEW) {
             self.fit_anew(code);
         } else {
             self.fit_code(code);

@@ -1,9 +1,9 @@
 // Laying objects one behind the other: where the code and the words of each come to lie.
+ghost use Rattle.std.specs.Prelude.{◌≡◌};
 ghost use Rattle.rows.specs.ObjectViews.{object_of};
 ghost use Rattle.linker.specs.Settled.{Settled};
 
-use arrayvec::ArrayVec;
-use rows::objects::{MOST_OBJECTS, NoObjects, ObjectView, Objects};
+use rows::objects::{NoObjects, ObjectView, Objects};
 
 // Where the code and the words of an object come to lie.
 #[derive(Clone, Copy, PartialEq, Eq, Debug)]
@@ -22,10 +22,8 @@ pub struct Laid<'a> {
     ghost settled: { Settled (record { object = object_of object; code_at = code_at; words_at = words_at }) },
 }
 
-// ArrayVec asks for a blank. By hand, since none is derived beside a ghost field.
+// What stands in a table where no object is laid. By hand, since none is derived beside a ghost field.
 impl Default for Laid<'_> {
-    ghost use Rattle.std.specs.Prelude.{◌≡◌};
-
     ghost is_default = { λ laid. (laid.code_at ≡ 0) × (laid.words_at ≡ 0) };
 
     // An object without anything, at the places 0.
@@ -54,10 +52,10 @@ impl Laid<'_> {
     }
 }
 
-// The objects of a row as they are laid, how many words their image has, and how many words the units have.
-#[derive(PartialEq, Eq, Debug, Drop)]
-pub struct Layout<'a> {
-    pub laid: ArrayVec<Laid<'a>, MOST_OBJECTS>,
+// How many objects were laid, how many words their image has, and how many words the units have.
+#[derive(Clone, Copy, PartialEq, Eq, Debug)]
+pub struct Extent {
+    pub objects: usize,
     pub image: usize,
     pub words: usize,
 }
@@ -65,15 +63,18 @@ pub struct Layout<'a> {
 // The words at the front of an image, before the first object's code.
 pub const HEAD: u32 = 4;
 
-impl<'a> Layout<'a> {
+impl Extent {
+    ghost use Rattle.std.specs.Prelude.{length};
     ghost use Rattle.linker.specs.Laying.{LaySays};
 
-    // Lays the objects of a row in the order in which they stand there.
-    pub fn of(row: &'a [u32]) -> Result<Layout<'a>, NoObjects>
-        ensures { LaySays row.now result }
+    // Lays the objects of a row in the order in which they stand there, in the front of the table. A lent table and no ArrayVec, since each that is
+    // made or answered with is filled or copied once more: with one, a link of two small objects took several times as long.
+    pub fn lay<'a>(row: &'a [u32], table: &mut [Laid<'a>]) -> Result<Extent, NoObjects>
+        requires { length table.old ≡ 256 }
+        ensures { LaySays row.now table.new result }
     {
         let mut reader = Objects::new(row)?;
-        let mut laid = ArrayVec::new();
+        let mut count = 0;
         let mut places = Places {
             code_at: HEAD,
             words_at: 0,
@@ -86,10 +87,11 @@ impl<'a> Layout<'a> {
                 words_at,
             };
             places = next.behind();
-            laid.push(next);
+            table[count] = next;
+            count += 1;
         }
-        Ok(Layout {
-            laid,
+        Ok(Extent {
+            objects: count,
             image: places.code_at as usize,
             words: places.words_at as usize,
         })

@@ -13,8 +13,8 @@ mod names;
 mod writing;
 
 use directory::Directory;
-use laying::{HEAD, Layout};
-use rows::objects::NoObjects;
+use laying::{Extent, HEAD, Laid};
+use rows::objects::{MOST_OBJECTS, NoObjects};
 use std::error::Error;
 use std::fmt;
 use writing::join;
@@ -72,11 +72,12 @@ pub fn link(objects: &[u32], image: &mut [u32]) -> Result<Image, NotLinked>
     if image.len() < HEAD as usize + objects.len() {
         return Err(NotLinked::NoSpace);
     }
-    let layout = Layout::of(objects)?;
-    let directory = Directory::new(&layout.laid)?;
+    let mut table = [Laid::default(); MOST_OBJECTS];
+    let extent = Extent::lay(objects, &mut table)?;
+    let directory = Directory::new(&table[..extent.objects])?;
     join(&directory, image)?;
     Ok(Image {
-        size: layout.image,
-        words: layout.words,
+        size: extent.image,
+        words: extent.words,
     })
 }

@@ -1,5 +1,5 @@
 // Writing the image.
-ghost use Rattle.std.specs.Prelude.{◌≡◌, ◌+◌, ◌≤◌, true, ◌∷◌, ◌++◌, length, drop, is_some};
+ghost use Rattle.std.specs.Prelude.{◌≡◌, ◌+◌, ◌≤◌, true, [], ◌∷◌, ◌++◌, length, drop, is_some};
 ghost use Rattle.linker.specs.Linking.{codes};
 ghost use Rattle.linker.specs.Tables.{objects_of, all_code};
 ghost use Rattle.linker.specs.Directories.{laid_by};
@@ -11,8 +11,11 @@ use crate::fitting::Fitter;
 use crate::laying::HEAD;
 use arrayvec::ArrayVec;
 
-// How many places of wants are kept from when wants are checked until code is fitted.
-const KEPT: usize = 32768;
+// How many places of wants are kept from when wants are checked until code is fitted: a few where there are no more wants, and else so many that
+// each of as many is looked for but once. Their table is filled at each link, so a small one keeps a small link quick.
+const FEW_KEPT: usize = 1024;
+
+const MOST_KEPT: usize = 16384;
 
 // The numbers of the machine's two instructions that an image begins with: to stand over the machine's crate for these alone would be no plainer.
 const CALL: u32 = 8;
@@ -70,18 +73,54 @@ impl Writer<'_, '_, '_> {
     }
 }
 
-// Joins the objects to an image, where their wants are met and there is an entry; else the image's words stay as they were.
+// How many wants the objects have. It decides only how many places are kept, and no contract speaks of that.
+fn want_count(directory: &Directory) -> usize {
+    let mut count: usize = 0;
+    for one in directory.laid {
+        count = count.saturating_add(one.object.wants.len());
+    }
+    count
+}
+
+// Joins the objects to an image, where their wants are met and there is an entry; else the image's words stay as they were. As many places of
+// wants are kept as there is room for.
+fn join_by<const KEPT: usize>(
+    directory: &Directory,
+    places: &mut ArrayVec<u32, KEPT>,
+    image: &mut [u32],
+) -> Result<(), NotLinked>
+    requires empty { places.old.items ≡ [] }
+    requires space { 4 + all_code (objects_of directory.now.laid.now) ≤ length image.old }
+    ensures { JoinSays (laid_by directory.now) image.old image.new result }
+{
+    let entry = directory.entry().ok_or(NotLinked::Missing)?;
+    directory.find_all(places)?;
+    let writer = Writer {
+        directory,
+        known: places.as_slice(),
+    };
+    writer.write(entry, image);
+    Ok(())
+}
+
+// The same with a large table, which stands on the stack of this function alone.
+#[inline(never)]
+fn join_many(directory: &Directory, image: &mut [u32]) -> Result<(), NotLinked>
+    requires { 4 + all_code (objects_of directory.now.laid.now) ≤ length image.old }
+    ensures { JoinSays (laid_by directory.now) image.old image.new result }
+{
+    let mut places: ArrayVec<u32, MOST_KEPT> = ArrayVec::new();
+    join_by(directory, &mut places, image)
+}
+
+// The same with a table for the places of the objects' wants.
 pub fn join(directory: &Directory, image: &mut [u32]) -> Result<(), NotLinked>
     requires { 4 + all_code (objects_of directory.now.laid.now) ≤ length image.old }
     ensures { JoinSays (laid_by directory.now) image.old image.new result }
 {
-    let entry = directory.entry().ok_or(NotLinked::Missing)?;
-    let mut places: ArrayVec<u32, KEPT> = ArrayVec::new();
-    directory.find_all(&mut places)?;
-    let writer = Writer {
-        directory,
-        known: &places,
-    };
-    writer.write(entry, image);
-    Ok(())
+    if want_count(directory) > FEW_KEPT {
+        return join_many(directory, image);
+    }
+    let mut places: ArrayVec<u32, FEW_KEPT> = ArrayVec::new();
+    join_by(directory, &mut places, image)
 }

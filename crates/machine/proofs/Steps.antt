@@ -5,6 +5,10 @@ use Rattle.rows.specs.Operations.{Op, operations}
 use Rattle.machine.specs.Machine.{Machine, halt, budget, top}
 use Rattle.machine.specs.Instructions.{Opcode, Halt, Push, Arg, Load, Store, Operate, JumpIfZero, Jump, Call, SetFrame, Return, Out, Next, Pop, Reserve, Release, Count, opcodes, operate, branch, count_call, act, act_at, decode, unless_halted, step, steps}
 
+pub steps_last : (k : ℕ) (code : List ℕ) (m : Machine) → steps (suc k) code m ≡ step code (steps k code m)
+steps_last zero code m = refl
+steps_last (suc k) code m = steps_last k code (step code m)
+
 pub steps_add : (j k : ℕ) (code : List ℕ) (m : Machine) → steps (j + k) code m ≡ steps k code (steps j code m)
 steps_add zero k code m = rw zero-add
 steps_add (suc j) k code m = rw suc-add (steps_add j k code (step code m))

@@ -4,7 +4,7 @@
 #[cfg(test)]
 mod tests {
     use decimal::input::{InputError, read_words};
-    use rows::units::{Refusal, UnitView};
+    use rows::units::{Refusal, UnitView, whole_wants};
     use std::test::Fail;
 
     // The last number ends with the text, without white space behind it; what was there before stays in front.
@@ -85,6 +85,14 @@ mod tests {
         let mut row = ASKS;
         row[7] = 2;
         assert_eq!(rt; UnitView::read(&row, &mut [0; 256]), Err(Refusal::NoUnit));
+        Ok(())
+    }
+
+    // A word that is left over says nothing.
+    #[test]
+    fn wants_of_flat_words(rt: HostRuntime) -> Result<(), Fail> {
+        let wants = whole_wants(&[7, 0, 1, 9, 2, 8, 5]);
+        assert_eq!(rt; wants, [[7, 0, 1], [9, 2, 8]].as_slice());
         Ok(())
     }
 }

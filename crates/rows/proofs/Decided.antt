@@ -1,7 +1,7 @@
 -- Tests that passed and options that are there.
 use Rattle.std.proofs.Common.{◌≡◌, ℕ, Bool, true, false, cond, ◌&&◌, T, is_some, IsErrAnd, Some, None, Ok, Err, Option, Result, unwrap_or, refl, ap, ◌∙◌, arith}
 use Rattle.std.specs.Option.{option_map, ok_or}
-use Rattle.std.proofs.lemmas.Bool.{false≢true}
+use Rattle.std.proofs.lemmas.Bool.{true≢false, false≢true}
 use Rattle.std.proofs.lemmas.Option.{none-some}
 use Rattle.rows.specs.Options.{◌>>=◌}
 use Rattle.rows.specs.UnitParts.{OrNoUnit}
@@ -11,6 +11,10 @@ use Rattle.rows.specs.declared.units.Refusal.TheVariants.{NoUnit, Short}
 pub none_since : {A : Type 0} (r : Option A) → false ≡ is_some r → r ≡ None
 none_since None e = refl
 none_since (Some x) e = absurd (false≢true e)
+
+pub some_since : {A : Type 0} (r : Option A) → true ≡ is_some r → (x : A) × (r ≡ Some x)
+some_since None e = absurd (true≢false e)
+some_since (Some x) e = (x, refl)
 
 pub some_value : {A : Type 0} (r : Option A) (d : A) → is_some r ≡ true → r ≡ Some (unwrap_or r d)
 some_value None d e = absurd (false≢true e)

@@ -16,3 +16,7 @@ pub mod ProcReading
 pub mod Outlines
 pub mod UnitReading
 pub mod Fits
+pub mod Arities
+pub mod SignShapes
+pub mod Wants
+pub mod WantRows

@@ -4,7 +4,7 @@ use Rattle.std.proofs.lemmas.List.{append_assoc}
 use Rattle.rows.specs.Units.{Expr, Exprs, nil, cons, count}
 use Rattle.rows.specs.UnitRows.{row_expr, row_exprs}
 use Rattle.rows.specs.Signs.{row_sign, part_count, sign_of, parts}
-use Rattle.rows.proofs.ExprParts.{row_parts, count_parts, Each, by_parts, node, node_of}
+use Rattle.rows.proofs.ExprParts.{row_parts, count_parts, Each, by_parts, each_by_parts, node, node_of}
 use Rattle.rows.proofs.SignFronts.{one_sign}
 
 -- a row that begins with an expression begins with its sign, behind which stand its parts
@@ -32,3 +32,6 @@ alone_by_parts e h f xs ys q =
 
 pub one_expr : (e f : Expr) (xs ys : List ℕ) → row_expr e ++ xs ≡ row_expr f ++ ys → (e ≡ f) × (xs ≡ ys)
 one_expr e = by_parts Alone alone_by_parts e
+
+pub one_exprs : (es fs : Exprs) (xs ys : List ℕ) → count es ≡ count fs → row_exprs es ++ xs ≡ row_exprs fs ++ ys → (es ≡ fs) × (xs ≡ ys)
+one_exprs es fs xs ys = alone_parts es fs xs ys (each_by_parts Alone alone_by_parts es)

@@ -11,6 +11,7 @@ pub mod Bodies
 pub mod UnitViews
 pub mod UnitParts
 pub mod UnitReading
+pub mod WantRows
 pub mod Objects
 pub mod ObjectRows
 pub mod ObjectViews

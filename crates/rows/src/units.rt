@@ -2,6 +2,7 @@
 ghost use Rattle.std.specs.Prelude.{◌≡◌, true, false, length};
 ghost use Rattle.rows.specs.UnitRows.{all_below, small_wants};
 ghost use Rattle.rows.specs.ObjectViews.{wants_in};
+ghost use Rattle.rows.specs.WantRows.{wants_said};
 ghost use Rattle.rows.specs.Bodies.{outlined};
 ghost use Rattle.rows.specs.UnitReading.{OneUnit, ReadSays};
 ghost use Rattle.rows.specs.UnitParts.{CutSays, OpenSays, AritySays, BodiesRight, OrNoUnit};
@@ -64,6 +65,13 @@ impl fmt::Display for Refusal {
 }
 
 impl Error for Refusal {}
+
+// The wants that flat words say, for a view or a scope that is made of such; one or two words that are left over say nothing.
+pub fn whole_wants(words: &[u32]) -> &[[u32; 3]]
+    ensures { wants_in result.now ≡ wants_said words.now }
+{
+    words.as_chunks::<3>().0
+}
 
 // Whether each want takes few enough arguments.
 fn wants_small(wants: &[[u32; 3]]) -> bool

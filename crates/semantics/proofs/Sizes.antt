@@ -1,5 +1,5 @@
 -- How large what is linked can be: the limits of a row of objects bound its image and the words of its units.
-use Rattle.std.proofs.Common.{◌≡◌, ℕ, ◌+◌, ◌*◌, ◌^◌, ◌<◌, ◌≤◌, T, leb, List, [], ◌∷◌, length, Some, sym, refl, ap, ◌∙◌, arith, length-append}
+use Rattle.std.proofs.Common.{◌≡◌, ℕ, ◌+◌, ◌*◌, ◌^◌, ◌<◌, ◌≤◌, T, leb, List, [], ◌∷◌, length, Some, sym, refl, ap, ◌∙◌, arith, length-append, length-take}
 use Rattle.std.proofs.lemmas.Bool.{leb-true}
 use Rattle.std.proofs.lemmas.Option.{same_Some}
 use Rattle.rows.specs.Objects.{Object}
@@ -47,3 +47,6 @@ image_short s os image rows linked = omega (arith, image_length os image (image_
 
 pub words_small : (s i i' : List ℕ) (n w : ℕ) → LinkedImage s i i' n w → w < 2 ^ 32
 words_small s i i' n w h = omega (arith, h.words, words_bound h.objects h.rows.inside, h.rows.few)
+
+pub image_inside : (s i i' : List ℕ) (n w : ℕ) → LinkedImage s i i' n w → n ≤ length i'
+image_inside s i i' n w h = omega (arith, h.size, ap length h.holds, length-take n i')
